@@ -1,0 +1,4 @@
+pub mod Front
+pub mod Steps
+pub mod Unique
+pub mod Words

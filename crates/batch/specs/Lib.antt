@@ -1,0 +1,6 @@
+pub mod Layout
+pub mod Reading
+pub mod Records
+pub mod Standing
+pub mod Texts
+pub mod Whole

@@ -1,0 +1,70 @@
+-- What stands at a place of a batch. Assumes nothing.
+use mathlib.Core.Bool.{Bool, cond, _&&_}
+use mathlib.Core.List.{List, [], _∷_}
+use mathlib.Core.Path.{_≡_}
+use Prim.Native.Nat.{ℕ, _≤_}
+use lib.Dec.{eqb, leb}
+use lib.ListN.{length, take}
+use Rattle.std.specs.declared.option.Option.{Option}
+use Rattle.std.specs.declared.option.Option.the-variants.{Some, None}
+use Rattle.std.specs.declared.result.Result.{Result}
+use Rattle.std.specs.declared.result.Result.the-variants.{Ok, Err}
+use Rattle.figures.specs.declared.refusal.Part.the-variants.{Reader}
+use Rattle.figures.specs.declared.refusal.Reason.{Reason}
+use Rattle.figures.specs.declared.refusal.Reason.the-variants.{UnknownMark, CutShort}
+use Rattle.figures.specs.declared.refusal.Refusal.{Refusal}
+use Rattle.batch.specs.declared.record.Found.{Found}
+use Rattle.batch.specs.declared.record.Record.{Record}
+use Rattle.batch.specs.Records.{bytes, size}
+
+-- the end of the batch, a record by its place and its bytes, or neither
+pub data Standing : Type 0 where
+  end : Standing
+  a-record : ℕ → List ℕ → Standing
+  unreadable : Refusal → Standing
+
+-- how many bytes of fields stand behind a mark
+abbrev pub fieldBytes : ℕ → ℕ → Option ℕ
+fieldBytes a b =
+    cond (eqb a 0x4F && eqb b 0x42) (Some 13)
+    (cond (eqb a 0x4F && eqb b 0x41) (Some 13)
+    (cond (eqb a 0x4D && eqb b 0x42) (Some 9)
+    (cond (eqb a 0x4D && eqb b 0x41) (Some 9)
+    (cond (eqb a 0x4F && eqb b 0x57) (Some 5) None))))
+
+abbrev pub refuse : Reason → Standing
+refuse why = unreadable (record { part = Reader; reason = why })
+
+abbrev pub behindMark : Option ℕ → ℕ → ℕ → ℕ → List ℕ → Standing
+behindMark None place a b rest = refuse (UnknownMark place)
+behindMark (Some n) place a b rest = cond (leb n (length rest)) (a-record place (a ∷ b ∷ take n rest)) (refuse (CutShort place))
+
+-- what the bytes from a place on begin with: a single byte is cut short; then the mark is checked, then the length
+abbrev pub standing : ℕ → List ℕ → Standing
+standing place [] = end
+standing place (a ∷ []) = refuse (CutShort place)
+standing place (a ∷ b ∷ rest) = behindMark (fieldBytes a b) place a b rest
+
+-- how far the reader moves on over it
+abbrev pub step : Standing → ℕ
+step end = 0
+step (a-record place record-bytes) = length record-bytes
+step (unreadable refusal) = 0
+
+-- what an answer of the reader tells
+abbrev pub told : Result (Option Found) Refusal → Standing
+told (Ok None) = end
+told (Ok (Some found)) = a-record (found .place) (bytes (found .«record»))
+told (Err refusal) = unreadable refusal
+
+-- the same of the record that the bytes from a place on begin with
+abbrev pub toldFront : ℕ → Result (Option Record) Refusal → Standing
+toldFront place (Ok None) = end
+toldFront place (Ok (Some front)) = a-record place (bytes front)
+toldFront place (Err refusal) = unreadable refusal
+
+-- that record is as long as its kind says, and no longer than the bytes
+abbrev pub Measured : List ℕ → Result (Option Record) Refusal → Type 0
+Measured rest (Ok None) = Unit {0}
+Measured rest (Ok (Some front)) = (length (bytes front) ≡ size front) × (size front ≤ length rest)
+Measured rest (Err refusal) = Unit {0}

@@ -1,0 +1,21 @@
+-- What each line of the listing says. Assumes nothing.
+use mathlib.Core.List.{List, [], _∷_, _++_}
+use Prim.Native.Nat.{ℕ}
+use lib.Chars.{codes}
+use Rattle.std.specs.Written.{decimal, signed}
+use Rattle.figures.specs.Refusals.{notice}
+use Rattle.batch.specs.declared.request.Entry.{Entry}
+use Rattle.batch.specs.Texts.{requestText}
+use Rattle.callmarket.specs.declared.line.Line.{Line}
+use Rattle.callmarket.specs.declared.line.Line.the-variants.{Call, Record, Unreadable, TooLong}
+
+abbrev pub text : Line → List ℕ
+text (Call hour) = codes "CALL " ++ decimal hour
+text (Record entry) = codes "RECORD " ++ (decimal (entry .place) ++ (codes " " ++ requestText (entry .request)))
+text (Unreadable refusal) = codes "UNREADABLE " ++ (signed (notice (refusal .reason) .figure) ++ (codes " " ++ decimal (notice (refusal .reason) .number)))
+text TooLong = codes "TOO LONG"
+
+-- lines, each with the end of the line behind it
+abbrev pub page : List Line → List ℕ
+page [] = []
+page (line ∷ lines) = text line ++ (10 ∷ page lines)

@@ -1,0 +1,25 @@
+-- What the program prints of a batch. Assumes nothing.
+use mathlib.Core.List.{List, [], _∷_, _++_, map}
+use mathlib.Core.Path.{_≡_}
+use Prim.Native.Nat.{ℕ}
+use Rattle.std.specs.declared.result.Result.{Result}
+use Rattle.std.specs.declared.result.Result.the-variants.{Ok, Err}
+use Rattle.batch.specs.declared.request.Entry.{Entry}
+use Rattle.batch.specs.declared.unread.Unread.{Unread}
+use Rattle.batch.specs.declared.unread.Unread.the-variants.{Refused, NoMemory}
+use Rattle.batch.specs.Whole.{Reads}
+use Rattle.callmarket.specs.declared.line.Line.{Line}
+use Rattle.callmarket.specs.declared.line.Line.the-variants.{Call, Record, Unreadable}
+
+-- what follows the lines of the records: the first place at which the batch cannot be read, if there is one
+abbrev pub Ended : Result (Unit {0}) Unread → List Line → List Line → Type 0
+Ended (Ok done) records lines = lines ≡ records
+Ended (Err (Refused refusal)) records lines = lines ≡ records ++ Unreadable refusal ∷ []
+Ended (Err NoMemory) records lines = ⊥
+
+-- the call, a line for each record that was read, and the end
+pub record Lists (batch : List ℕ) (lines : List Line) : Type 0 where
+  pub entries : List Entry
+  pub result : Result (Unit {0}) Unread
+  pub reads : Reads batch entries result
+  pub ended : Ended result (Call 100 ∷ map Record entries) lines

@@ -1,0 +1,55 @@
+// What the program says of a batch.
+ghost use mathlib.Core.List.{_++_, map};
+ghost use mathlib.Core.Path.{_≡_};
+ghost use Rattle.std.specs.Of.Vec.{vec-items};
+ghost use Rattle.std.specs.Vec.{made};
+ghost use Rattle.callmarket.specs.Listing.{Lists, Ended};
+ghost use Rattle.callmarket.specs.declared.line.Line.the-variants.{Record};
+use crate::line::Line;
+use batch::request::Entry;
+use batch::unread::Unread;
+use batch::whole::read_all;
+use std::alloc::AllocError;
+use std::alloc::Global;
+
+/// The hour at which the market stands when the program starts.
+const OPENING_HOUR: u32 = 100;
+
+/// The fewest bytes that a record has.
+const SHORTEST: usize = 7;
+
+/// A line for the call, one for each record, and one for the first place at which there is no
+/// record, if any.
+pub fn listing(heap: Global, batch: &[u8]) -> Result<Vec<Line>, AllocError>
+    ensures { λ r. ⌜ made r (λ lines. Lists (now (batch .entry)) (vec-items lines)) ⌝ }
+{
+    let mut entries = Vec::with_capacity(heap, batch.len() / SHORTEST)?;
+    let end = read_all(batch, &mut entries);
+    let mut lines = Vec::new(heap);
+    lines.push(Line::Call { hour: OPENING_HOUR })?;
+    add_records(&mut lines, entries.as_slice())?;
+    add_end(&mut lines, end)?;
+    Ok(lines)
+}
+
+// Adds a line for each entry.
+fn add_records(lines: &mut Vec<Line>, entries: &[Entry]) -> Result<(), AllocError>
+    ensures { λ r. ⌜ made r (λ _. vec-items (now (lines .exit)) ≡ vec-items (now (lines .entry)) ++ map Record (now (entries .entry))) ⌝ }
+{
+    for entry in entries {
+        lines.push(Line::Record(*entry))?;
+    }
+    Ok(())
+}
+
+// Adds a line for the place at which reading stopped, if it did.
+fn add_end(lines: &mut Vec<Line>, end: Result<(), Unread>) -> Result<(), AllocError>
+    ensures { λ r. ⌜ made r (λ _. Ended end (vec-items (now (lines .entry))) (vec-items (now (lines .exit)))) ⌝ }
+{
+    match end {
+        Ok(()) => {}
+        Err(Unread::Refused(refusal)) => lines.push(Line::Unreadable(refusal))?,
+        Err(Unread::NoMemory) => return Err(AllocError),
+    }
+    Ok(())
+}

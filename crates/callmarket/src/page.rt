@@ -1,0 +1,20 @@
+// The text of some lines.
+ghost use mathlib.Core.Path.{_≡_};
+ghost use Rattle.std.specs.Of.String.{string-bytes};
+ghost use Rattle.std.specs.Vec.{made};
+ghost use Rattle.callmarket.specs.Lines.{page};
+use crate::line::Line;
+use crate::line::LineDisplay;
+use std::alloc::Global;
+use std::fmt;
+
+/// The lines as they are printed, one below the other.
+pub fn print_page(heap: Global, lines: &[Line]) -> Result<String, fmt::Error>
+    ensures { λ r. ⌜ made r (λ text. string-bytes text ≡ page (now (lines .entry))) ⌝ }
+{
+    let mut text = String::new(heap);
+    for line in lines {
+        writeln!(text, "{line}")?;
+    }
+    Ok(text)
+}

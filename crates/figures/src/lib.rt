@@ -1,0 +1,2 @@
+// The figures that every part of the market shares.
+pub mod refusal;
