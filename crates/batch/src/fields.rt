@@ -35,7 +35,7 @@ impl<'a> MarketFields<'a> {
     pub fn energy(self) -> u32
         ensures { λ r. ⌜ drop 5 (now (self .entry .0)) ≡ word r ⌝ }
     {
-        let [.., a, b, c, d] = self.0;
+        let [_, _, _, _, _, a, b, c, d] = self.0;
         u32::from_be_bytes([*a, *b, *c, *d])
     }
 }
@@ -80,7 +80,7 @@ impl<'a> WithdrawalFields<'a> {
     pub fn member(self) -> u8
         ensures { λ r. ⌜ take 1 (now (self .entry .0)) ≡ r ∷ [] ⌝ }
     {
-        let [member, ..] = self.0;
+        let [member, _, _, _, _] = self.0;
         *member
     }
 

@@ -3,5 +3,7 @@ pub mod fields;
 pub mod reader;
 pub mod record;
 pub mod request;
+#[cfg(test)]
+mod tests;
 pub mod unread;
 pub mod whole;
