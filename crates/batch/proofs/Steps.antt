@@ -68,24 +68,24 @@ not-layouts refusal place (q ∷ qs) e = no-record refusal place q (layouts qs) 
 
 module _ {batch : List ℕ} {es : List Entry} {reader : Reader} (s : Sofar batch es reader) where
   -- one record more, behind which the reader then stands
-  pub one-more : (found : Found) (q : Request) (next : Reader) → told (Ok (Some found)) ≡ here reader → layout q ≡ bytes (found .«record») → Fitting q → next .place ≡ reader .place + step (here reader) → next .batch .now ≡ reader .batch .now → Sofar batch (es ++ record { place = found .place; request = q } ∷ []) next
-  one-more found q next stands is fits moved same =
+  pub one-more : (found : Found) (q : Request) (next : Reader) (more : List Entry) → told (Ok (Some found)) ≡ here reader → layout q ≡ bytes (found .«record») → Fitting q → next .place ≡ reader .place + step (here reader) → next .batch .now ≡ reader .batch .now → more ≡ es ++ record { place = found .place; request = q } ∷ [] → Sofar batch more next
+  one-more found q next more stands is fits moved same pushed =
       let e : Entry = record { place = found .place; request = q } in
       let front = layout q in
       let split = splits (reader .place) (found .place) (ahead reader) front (ap (a-record (found .place)) is ∙ stands) in
       let tail = split .1 .0 in
       let steps : next .place ≡ reader .place + length front = moved ∙ ap (λ t. reader .place + step t) (sym stands) ∙ ap (λ l. reader .place + length l) (sym is) in
-      let more : asked (es ++ e ∷ []) ≡ asked es ++ q ∷ [] = map-append _ es (e ∷ []) in
-      let all : layouts (asked (es ++ e ∷ [])) ≡ layouts (asked es) ++ front = ap layouts more ∙ layouts-push (asked es) q in
+      let asks : asked (es ++ e ∷ []) ≡ asked es ++ q ∷ [] = map-append _ es (e ∷ []) in
+      let all : layouts (asked (es ++ e ∷ [])) ≡ layouts (asked es) ++ front = ap layouts asks ∙ layouts-push (asked es) q in
       let left : ahead next ≡ tail = (λ i. drop (steps i) (same i)) ∙ sym (drop-drop (length front) (reader .place) (reader .batch .now)) ∙ ap (drop (length front)) (sym (split .1 .1)) ∙ drop-append-seam front tail in
-      record {
+      subst (λ l. Sofar batch l next) (sym pushed) (record {
         same = same ∙ s .same;
         bytes = (λ i. all i ++ left i) ∙ append-assoc (layouts (asked es)) front tail ∙ ap (λ l. layouts (asked es) ++ l) (split .1 .1) ∙ s .bytes;
         reached = ap length all ∙ length-append (layouts (asked es)) front ∙ ap (λ n. n + length front) (s .reached) ∙ sym steps;
-        fitting = subst (All Fitting) (sym more) (all-push Fitting (asked es) q (s .fitting) fits);
+        fitting = subst (All Fitting) (sym asks) (all-push Fitting (asked es) q (s .fitting) fits);
         placed = placed-push 0 es e (s .placed) (split .0 ∙ omega (arith, s .reached));
         few = simp length-append (omega (arith, s .few, seven q, steps));
-      }
+      })
 
   -- the end of the batch
   pub ended : end ≡ here reader → ReadToEnd batch es

@@ -1,10 +1,10 @@
 -- A record's fields put together again from their parts. Assumes nothing.
 use mathlib.Core.Path.{_≡_, sym, ap, _∙_}
 use mathlib.Core.List.{List, _++_}
-use Prim.Native.Nat.{ℕ, _+_, _≤_}
+use Prim.Native.Nat.{ℕ}
 use native.Mathlib.Omega.{arith}
 use lib.IntN.{ℤ}
-use lib.ListN.{length, take, drop, length-drop, take-append-drop}
+use lib.ListN.{length, take, drop, take-append-drop}
 use lib.Seq.{take-all}
 use mir.Facts.{toZ-ofZ}
 use mir.Syntax.{w32}
@@ -12,9 +12,9 @@ use mir.Val.{ofZ, toZ, SFits}
 use Rattle.batch.specs.Layout.{part, signedWord, termsLayout}
 use Rattle.batch.specs.declared.request.Terms.{Terms}
 
--- a part that ends where the bytes end is all that is left
-pub last-part : (at n : ℕ) (bs w : List ℕ) → length bs ≡ at + n → part at n bs ≡ w → drop at bs ≡ w
-last-part at n bs w e p = let l : length (drop at bs) ≤ n = simp length-drop (omega arith) in sym (take-all n (drop at bs) l) ∙ p
+-- four bytes are what stands in their first four places
+pub four : (bs w : List ℕ) → length bs ≡ 4 → part 0 4 bs ≡ w → bs ≡ w
+four bs w long is = sym (take-all 4 bs (omega arith)) ∙ is
 
 -- an order's terms, and its limit behind them
 pub with-limit : (bs ms : List ℕ) (t : Terms) (limit : ℤ) → termsLayout t ≡ ms → ms ≡ take 9 bs → drop 9 bs ≡ signedWord limit → SFits w32 limit → termsLayout t ++ signedWord (toZ w32 (ofZ w32 limit)) ≡ bs

@@ -9,13 +9,13 @@ use Rattle.batch.specs.Texts.{requestText}
 use Rattle.callmarket.specs.declared.line.Line.{Line}
 use Rattle.callmarket.specs.declared.line.Line.the-variants.{Call, Record, Unreadable, TooLong}
 
-abbrev pub text : Line → List ℕ
-text (Call hour) = codes "CALL " ++ decimal hour
-text (Record entry) = codes "RECORD " ++ (decimal (entry .place) ++ (codes " " ++ requestText (entry .request)))
-text (Unreadable refusal) = codes "UNREADABLE " ++ (signed (notice (refusal .reason) .figure) ++ (codes " " ++ decimal (notice (refusal .reason) .number)))
-text TooLong = codes "TOO LONG"
+abbrev pub lineText : Line → List ℕ
+lineText (Call hour) = codes "CALL " ++ decimal hour
+lineText (Record entry) = codes "RECORD " ++ (decimal (entry .place) ++ (codes " " ++ requestText (entry .request)))
+lineText (Unreadable refusal) = codes "UNREADABLE " ++ (signed (notice (refusal .reason) .figure) ++ (codes " " ++ decimal (notice (refusal .reason) .number)))
+lineText TooLong = codes "TOO LONG"
 
 -- lines, each with the end of the line behind it
 abbrev pub page : List Line → List ℕ
 page [] = []
-page (line ∷ lines) = text line ++ (10 ∷ page lines)
+page (line ∷ lines) = lineText line ++ (10 ∷ page lines)

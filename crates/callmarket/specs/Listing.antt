@@ -1,7 +1,8 @@
 -- What the program prints of a batch. Assumes nothing.
 use mathlib.Core.List.{List, [], _∷_, _++_, map}
 use mathlib.Core.Path.{_≡_}
-use Prim.Native.Nat.{ℕ}
+use Prim.Native.Nat.{ℕ, _≤_, _<_}
+use lib.ListN.{length}
 use Rattle.std.specs.declared.result.Result.{Result}
 use Rattle.std.specs.declared.result.Result.the-variants.{Ok, Err}
 use Rattle.batch.specs.declared.request.Entry.{Entry}
@@ -9,7 +10,7 @@ use Rattle.batch.specs.declared.unread.Unread.{Unread}
 use Rattle.batch.specs.declared.unread.Unread.the-variants.{Refused, NoMemory}
 use Rattle.batch.specs.Whole.{Reads}
 use Rattle.callmarket.specs.declared.line.Line.{Line}
-use Rattle.callmarket.specs.declared.line.Line.the-variants.{Call, Record, Unreadable}
+use Rattle.callmarket.specs.declared.line.Line.the-variants.{Call, Record, Unreadable, TooLong}
 
 -- what follows the lines of the records: the first place at which the batch cannot be read, if there is one
 abbrev pub Ended : Result (Unit {0}) Unread → List Line → List Line → Type 0
@@ -23,3 +24,8 @@ pub record Lists (batch : List ℕ) (lines : List Line) : Type 0 where
   pub result : Result (Unit {0}) Unread
   pub reads : Reads batch entries result
   pub ended : Ended result (Call 100 ∷ map Record entries) lines
+
+-- the lines for what was given: more than 32,768 bytes are no batch
+pub record Says (input : List ℕ) (lines : List Line) : Type 0 where
+  pub a-batch : length input ≤ 32768 → Lists input lines
+  pub too-long : 32768 < length input → lines ≡ TooLong ∷ []

@@ -1,6 +1,6 @@
 // A line that the program prints.
 ghost use Rattle.std.specs.declared.option.Option.the-variants.{Some};
-ghost use Rattle.callmarket.specs.Lines.{text};
+ghost use Rattle.callmarket.specs.Lines.{lineText};
 use batch::request::Entry;
 use batch::request::RequestDisplay;
 use figures::refusal::Refusal;
@@ -16,7 +16,7 @@ pub enum Line {
 }
 
 pub impl fmt::Display for Line as LineDisplay {
-    ghost shown = { λ line. Some (text line) };
+    ghost shown = { λ line. Some (lineText line) };
 
     fn fmt<W: fmt::Write>(&self, f: &mut fmt::Formatter<W>) -> fmt::Result {
         match self {

@@ -6,7 +6,7 @@ mod page;
 #[cfg(test)]
 mod tests;
 
-use output::LONGEST;
+use listing::LONGEST;
 use output::output;
 use std::alloc::Global;
 use std::error::AnyError;

@@ -1,8 +1,9 @@
 // The text of some lines.
+ghost use mathlib.Core.List.{[], _∷_, _++_};
 ghost use mathlib.Core.Path.{_≡_};
 ghost use Rattle.std.specs.Of.String.{string-bytes};
 ghost use Rattle.std.specs.Vec.{made};
-ghost use Rattle.callmarket.specs.Lines.{page};
+ghost use Rattle.callmarket.specs.Lines.{lineText, page};
 use crate::line::Line;
 use crate::line::LineDisplay;
 use std::alloc::Global;
@@ -14,7 +15,14 @@ pub fn print_page(heap: Global, lines: &[Line]) -> Result<String, fmt::Error>
 {
     let mut text = String::new(heap);
     for line in lines {
-        writeln!(text, "{line}")?;
+        add_line(&mut text, *line)?;
     }
     Ok(text)
+}
+
+// Adds a line and its end.
+fn add_line(text: &mut String, line: Line) -> fmt::Result
+    ensures { λ r. ⌜ made r (λ _. string-bytes (now (text .exit)) ≡ string-bytes (now (text .entry)) ++ (lineText line ++ (10 ∷ []))) ⌝ }
+{
+    writeln!(text, "{line}")
 }

@@ -1,5 +1,5 @@
 // The edges of what the program takes, and of what it reads.
-use crate::output::LONGEST;
+use crate::listing::LONGEST;
 use crate::output::output;
 use crate::read_input;
 use std::alloc::AllocError;

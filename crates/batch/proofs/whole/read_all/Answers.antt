@@ -1,11 +1,11 @@
-use mathlib.Core.Path.{_≡_, sym, ap, subst, _∙_}
+use mathlib.Core.Path.{_≡_, sym, ap, _∙_}
 use Prim.Native.Nat.{ℕ}
 use native.Mathlib.Omega.{arith}
 use borrow.Author.Needs.{needs}
 use Rattle.std.specs.declared.result.Result.the-variants.{Ok, Err}
 use Rattle.std.proofs.shelf.Results.{err-from-errBy}
 use Rattle.batch.specs.Standing.{told}
-use Rattle.batch.proofs.Steps.{Sofar, one-more, ended, stuck, no-want}
+use Rattle.batch.proofs.Steps.{one-more, ended, stuck, no-want}
 use Rattle.batch.proofs.whole.read_all.Needs as need
 
 pub returns-in-Break-found : need.returns-in-Break-found
@@ -21,8 +21,8 @@ pub loop-found-again : need.loop-found-again
 loop-found-again c =
     let next = c .in-Continue-found .ensures tt in
     let stands = sym (ap (λ o. told (Ok o)) (c .in-Some .is)) ∙ next .answer in
-    let more = one-more (c .loop-found .inv .0) (c .in-Some .found) (c .request .result) (c .next .last .self) stands (c .request .ensures .layout) (c .request .ensures .fitting) (next .place) (next .batch) in
-    (subst (λ es. Sofar (c .args .batch .now) es (c .next .last .self)) (sym (c .in-Continue-push .ensures tt .items)) more, search needs)
+    let pushed = c .in-Continue-push .ensures tt .items in
+    (one-more (c .loop-found .inv .0) (c .in-Some .found) (c .request .result) (c .next .last .self) _ stands (c .request .ensures .layout) (c .request .ensures .fitting) (next .place) (next .batch) pushed, search needs)
 
 pub returns : need.returns
 returns c =
