@@ -1,5 +1,5 @@
 -- What a turn of `read_all` keeps, and what its end gives. Assumes nothing.
-use mathlib.Core.List.{List, [], _∷_, _++_, map, append-assoc, append-nil, map-append}
+use mathlib.Core.List.{List, [], _∷_, _++_, append-assoc, append-nil, map-append}
 use mathlib.Core.Path.{_≡_, refl, sym, ap, subst, _∙_}
 use Prim.Native.Nat.{ℕ, _+_, _*_, _≤_}
 use native.Mathlib.Nat.{add-assoc, add-zero}
@@ -23,7 +23,7 @@ use Rattle.batch.specs.Layout.{layout, layouts, Fitting}
 use Rattle.batch.specs.Reading.{ahead, here}
 use Rattle.batch.specs.Records.{bytes}
 use Rattle.batch.specs.Standing.{end, a-record, unreadable, standing, step, told}
-use Rattle.batch.specs.Whole.{Holds, asked, Placed, ReadToEnd, Reads}
+use Rattle.batch.specs.Whole.{asked, Placed, ReadToEnd, Reads}
 use Rattle.batch.proofs.Front.{splits, at-end}
 use Rattle.batch.proofs.Unique.{stands, some-bytes, Behind, behind}
 

@@ -1,5 +1,5 @@
 -- What stands at a place of a batch. Assumes nothing.
-use mathlib.Core.Bool.{Bool, cond, _&&_}
+use mathlib.Core.Bool.{cond, _&&_}
 use mathlib.Core.List.{List, [], _∷_}
 use mathlib.Core.Path.{_≡_}
 use Prim.Native.Nat.{ℕ, _≤_}
@@ -58,13 +58,11 @@ told (Ok (Some found)) = a-record (found .place) (bytes (found .«record»))
 told (Err refusal) = unreadable refusal
 
 -- the same of the record that the bytes from a place on begin with
-abbrev pub toldFront : ℕ → Result (Option Record) Refusal → Standing
-toldFront place (Ok None) = end
-toldFront place (Ok (Some front)) = a-record place (bytes front)
+abbrev pub toldFront : ℕ → Result Record Refusal → Standing
+toldFront place (Ok front) = a-record place (bytes front)
 toldFront place (Err refusal) = unreadable refusal
 
 -- that record is as long as its kind says, and no longer than the bytes
-abbrev pub Measured : List ℕ → Result (Option Record) Refusal → Type 0
-Measured rest (Ok None) = Unit {0}
-Measured rest (Ok (Some front)) = (length (bytes front) ≡ size front) × (size front ≤ length rest)
+abbrev pub Measured : List ℕ → Result Record Refusal → Type 0
+Measured rest (Ok front) = (length (bytes front) ≡ size front) × (size front ≤ length rest)
 Measured rest (Err refusal) = Unit {0}

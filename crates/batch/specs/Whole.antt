@@ -23,7 +23,7 @@ pub record Holds (batch : List ℕ) (requests : List Request) : Type 0 where
 abbrev pub asked : List Entry → List Request
 asked entries = map (λ entry. entry .request) entries
 
--- each entry tells the place of its record, where the first record begins at a place
+-- each entry tells where its record begins, and the first begins at a place
 abbrev pub Placed : ℕ → List Entry → Type 0
 Placed place [] = Unit {0}
 Placed place (entry ∷ entries) = (entry .place ≡ place) × Placed (place + length (layout (entry .request))) entries

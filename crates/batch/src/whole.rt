@@ -4,7 +4,7 @@ ghost use Prim.Native.Nat.{_<_, _/_};
 ghost use lib.ListN.{length};
 ghost use Rattle.std.specs.Of.Vec.{vec-items, vec-cap};
 ghost use Rattle.batch.specs.Whole.{Reads};
-ghost use Rattle.batch.specs.declared.unread.Unread.the-variants.{Refused, NoMemory};
+ghost use Rattle.batch.specs.declared.unread.Unread.the-variants.{NoMemory};
 ghost use Rattle.std.specs.declared.result.Result.the-variants.{Err};
 use crate::reader::Reader;
 use crate::request::Entry;

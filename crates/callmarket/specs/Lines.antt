@@ -4,7 +4,6 @@ use Prim.Native.Nat.{ℕ}
 use lib.Chars.{codes}
 use Rattle.std.specs.Written.{decimal, signed}
 use Rattle.figures.specs.Refusals.{notice}
-use Rattle.batch.specs.declared.request.Entry.{Entry}
 use Rattle.batch.specs.Texts.{requestText}
 use Rattle.callmarket.specs.declared.line.Line.{Line}
 use Rattle.callmarket.specs.declared.line.Line.the-variants.{Call, Record, Unreadable, TooLong}

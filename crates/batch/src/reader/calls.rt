@@ -27,9 +27,10 @@ impl<'a> Reader<'a> {
         let place = self.place;
         let batch = self.batch;
         let (_, ahead) = batch.split_at(place);
-        let Some(record) = front(ahead, place)? else {
+        if ahead.is_empty() {
             return Ok(None);
-        };
+        }
+        let record = front(ahead, place)?;
         self.place = place + record.size();
         Ok(Some(Found { place, record }))
     }

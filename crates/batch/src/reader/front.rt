@@ -13,26 +13,22 @@ use figures::refusal::Part;
 use figures::refusal::Reason;
 use figures::refusal::Refusal;
 
-// The record that `rest`, the bytes from `place` on, begins with, or none where it is empty.
-pub(super) fn front<'a>(rest: &'a [u8], place: usize) -> Result<Option<Record<'a>>, Refusal>
+// The record that `rest`, the bytes from `place` on, begins with.
+pub(super) fn front<'a>(rest: &'a [u8], place: usize) -> Result<Record<'a>, Refusal>
+    requires { ⌜ 0 < length (now rest) ⌝ }
     ensures answer { λ r. ⌜ toldFront place r ≡ standing place (now (rest .entry)) ⌝ }
     ensures measured { λ r. ⌜ Measured (now (rest .entry)) r ⌝ }
 {
     match rest {
-        [0x4F, 0x42, fields @ ..] => Ok(Some(Record::Bid(LimitFields(whole(fields, place)?)))),
-        [0x4F, 0x41, fields @ ..] => Ok(Some(Record::Ask(LimitFields(whole(fields, place)?)))),
-        [0x4D, 0x42, fields @ ..] => Ok(Some(Record::MarketBid(MarketFields(
+        [0x4F, 0x42, fields @ ..] => Ok(Record::Bid(LimitFields(whole(fields, place)?))),
+        [0x4F, 0x41, fields @ ..] => Ok(Record::Ask(LimitFields(whole(fields, place)?))),
+        [0x4D, 0x42, fields @ ..] => Ok(Record::MarketBid(MarketFields(whole(fields, place)?))),
+        [0x4D, 0x41, fields @ ..] => Ok(Record::MarketAsk(MarketFields(whole(fields, place)?))),
+        [0x4F, 0x57, fields @ ..] => Ok(Record::Withdrawal(WithdrawalFields(
             whole(fields, place)?,
-        )))),
-        [0x4D, 0x41, fields @ ..] => Ok(Some(Record::MarketAsk(MarketFields(
-            whole(fields, place)?,
-        )))),
-        [0x4F, 0x57, fields @ ..] => Ok(Some(Record::Withdrawal(WithdrawalFields(
-            whole(fields, place)?,
-        )))),
+        ))),
         [_, _, ..] => Err(refusal(Reason::UnknownMark { place })),
-        [_] => Err(refusal(Reason::CutShort { place })),
-        [] => Ok(None),
+        _ => Err(refusal(Reason::CutShort { place })),
     }
 }
 
