@@ -1,10 +1,10 @@
 -- What a turn of `read_all` keeps, and what its end gives. Assumes nothing.
 use mathlib.Core.List.{List, [], _∷_, _++_, append-assoc, append-nil, map-append}
 use mathlib.Core.Path.{_≡_, refl, sym, ap, subst, _∙_}
-use Prim.Native.Nat.{ℕ, _+_, _*_, _≤_}
+use Prim.Native.Nat.{ℕ, _+_, _-_, _*_, _/_, _≤_, _<_}
 use native.Mathlib.Nat.{add-assoc, add-zero}
 use native.Mathlib.Omega.{arith}
-use lib.ListN.{length, drop, length-append}
+use lib.ListN.{length, drop, length-append, length-drop}
 use lib.Seq.{drop-drop, drop-append-seam}
 use Rattle.std.specs.declared.option.Option.the-variants.{Some}
 use Rattle.std.specs.declared.result.Result.{Result}
@@ -18,12 +18,12 @@ use Rattle.batch.specs.declared.request.Entry.{Entry}
 use Rattle.batch.specs.declared.request.Request.{Request}
 use Rattle.batch.specs.declared.request.Request.the-variants.{Bid, Ask, MarketBid, MarketAsk, Withdrawal}
 use Rattle.batch.specs.declared.unread.Unread.{Unread}
-use Rattle.batch.specs.declared.unread.Unread.the-variants.{Refused, NoMemory}
+use Rattle.batch.specs.declared.unread.Unread.the-variants.{Unreadable, NoMemory}
 use Rattle.batch.specs.Layout.{layout, layouts, Fitting}
 use Rattle.batch.specs.Reading.{ahead, here}
 use Rattle.batch.specs.Records.{bytes}
 use Rattle.batch.specs.Standing.{end, a-record, unreadable, standing, step, told}
-use Rattle.batch.specs.Whole.{asked, Placed, ReadToEnd, Reads}
+use Rattle.batch.specs.Whole.{asked, Placed, ReadToEnd, Front, Reads}
 use Rattle.batch.proofs.Front.{splits, at-end}
 use Rattle.batch.proofs.Unique.{stands, some-bytes, Behind, behind}
 
@@ -87,6 +87,20 @@ module _ {batch : List ℕ} {es : List Entry} {reader : Reader} (s : Sofar batch
         few = simp length-append (omega (arith, s .few, seven q, steps));
       })
 
+  pub so-far : Front batch es (ahead reader)
+  so-far = record { bytes = s .bytes; fitting = s .fitting; placed = s .placed }
+
+  -- there is one more record than entries, and each has seven bytes
+  pub fewer : (found : Found) (q : Request) → told (Ok (Some found)) ≡ here reader → layout q ≡ bytes (found .«record») → length es < length batch / 7
+  fewer found q stands is =
+      let split = splits (reader .place) (found .place) (ahead reader) (layout q) (ap (a-record (found .place)) is ∙ stands) in
+      let long : length (layout q) + length (split .1 .0) ≡ length batch - reader .place = sym (length-append (layout q) (split .1 .0)) ∙ ap length (split .1 .1) ∙ length-drop (reader .place) (reader .batch .now) ∙ ap (λ l. length l - reader .place) (s .same) in
+      omega (arith, s .few, seven q)
+
+  -- no memory for one entry more
+  pub wanting : (items : List Entry) (r : Result (Unit {0}) Unread) → items ≡ es → r ≡ Err NoMemory → Reads batch items r
+  wanting items r same is = subst (Reads batch items) (sym is) (ahead reader, subst (λ l. Front batch l (ahead reader)) (sym same) so-far)
+
   -- the end of the batch
   pub ended : end ≡ here reader → ReadToEnd batch es
   ended stands =
@@ -101,12 +115,10 @@ module _ {batch : List ℕ} {es : List Entry} {reader : Reader} (s : Sofar batch
       all-of qs b = b .split ∙ ap (λ l. asked es ++ l) (none-left (b .left) (b .bytes)) ∙ append-nil (asked es)
 
   -- a place at which there is no record
-  pub stuck : (refusal : Refusal) (r : Result (Unit {0}) Unread) → unreadable refusal ≡ here reader → r ≡ Err (Refused refusal) → Reads batch es r
+  pub stuck : (refusal : Refusal) (r : Result (Unit {0}) Unread) → unreadable refusal ≡ here reader → r ≡ Err (Unreadable refusal) → Reads batch es r
   stuck refusal r stands is = subst (Reads batch es) (sym is) (record {
     rest = ahead reader;
-    bytes = s .bytes;
-    fitting = s .fitting;
-    placed = s .placed;
+    front = so-far;
     none = λ q tail fits e. no-record refusal (reader .place) q tail (stands ∙ ap (standing (reader .place)) (sym e));
     never = λ qs h. never qs (behind (asked es) qs (ahead reader) (s .fitting) (h .fitting) (s .bytes ∙ sym (h .bytes)));
     why = ap (λ n. standing n (ahead reader)) (s .reached) ∙ sym stands;
@@ -115,5 +127,5 @@ module _ {batch : List ℕ} {es : List Entry} {reader : Reader} (s : Sofar batch
       never : (qs : List Request) → Behind (asked es) qs (ahead reader) → ⊥
       never qs b = not-layouts refusal (reader .place) (b .left) (stands ∙ ap (standing (reader .place)) (b .bytes))
 
-pub no-want : (r : Result (Unit {0}) Unread) (refusal : Refusal) → r ≡ Err (Refused refusal) → r ≡ Err NoMemory → ⊥
+pub no-want : (r : Result (Unit {0}) Unread) (refusal : Refusal) → r ≡ Err (Unreadable refusal) → r ≡ Err NoMemory → ⊥
 no-want r refusal is bad = let z : _≡_ {A = ℕ} 0 1 = cc in omega arith

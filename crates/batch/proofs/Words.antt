@@ -9,11 +9,11 @@ use lib.Seq.{take-all}
 use mir.Facts.{toZ-ofZ}
 use mir.Syntax.{w32}
 use mir.Val.{ofZ, toZ, SFits}
-use Rattle.batch.specs.Layout.{part, signedWord, termsLayout}
+use Rattle.batch.specs.Layout.{bytesAt, signedWord, termsLayout}
 use Rattle.batch.specs.declared.request.Terms.{Terms}
 
 -- four bytes are what stands in their first four places
-pub four : (bs w : List ℕ) → length bs ≡ 4 → part 0 4 bs ≡ w → bs ≡ w
+pub four : (bs w : List ℕ) → length bs ≡ 4 → bytesAt 0 4 bs ≡ w → bs ≡ w
 four bs w long is = sym (take-all 4 bs (omega arith)) ∙ is
 
 -- an order's terms, and its limit behind them

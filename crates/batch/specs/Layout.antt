@@ -8,8 +8,9 @@ use mir.Val.{ofZ, SFits}
 use Rattle.batch.specs.declared.request.Terms.{Terms}
 use Rattle.batch.specs.declared.request.Request.{Request}
 use Rattle.batch.specs.declared.request.Request.the-variants.{Bid, Ask, MarketBid, MarketAsk, Withdrawal}
+use Rattle.batch.specs.Marks.{bidMark, askMark, marketBidMark, marketAskMark, withdrawalMark}
 
--- the four bytes of a number, highest first
+-- the four bytes of a number below 2 ^ 32, highest first
 abbrev pub word : ℕ → List ℕ
 word n = n / 16777216 ∷ n / 65536 % 256 ∷ n / 256 % 256 ∷ n % 256 ∷ []
 
@@ -23,11 +24,11 @@ termsLayout t = t .member ∷ (word (t .hour) ++ word (t .energy))
 
 -- a request's record: its mark, then its fields
 abbrev pub layout : Request → List ℕ
-layout (Bid terms limit) = 0x4F ∷ 0x42 ∷ (termsLayout terms ++ signedWord limit)
-layout (Ask terms limit) = 0x4F ∷ 0x41 ∷ (termsLayout terms ++ signedWord limit)
-layout (MarketBid terms) = 0x4D ∷ 0x42 ∷ termsLayout terms
-layout (MarketAsk terms) = 0x4D ∷ 0x41 ∷ termsLayout terms
-layout (Withdrawal member serial) = 0x4F ∷ 0x57 ∷ member ∷ word serial
+layout (Bid terms limit) = bidMark ++ (termsLayout terms ++ signedWord limit)
+layout (Ask terms limit) = askMark ++ (termsLayout terms ++ signedWord limit)
+layout (MarketBid terms) = marketBidMark ++ termsLayout terms
+layout (MarketAsk terms) = marketAskMark ++ termsLayout terms
+layout (Withdrawal member serial) = withdrawalMark ++ (member ∷ word serial)
 
 -- the records of a batch, one after another
 abbrev pub layouts : List Request → List ℕ
@@ -46,5 +47,5 @@ Fitting (MarketAsk terms) = FittingTerms terms
 Fitting (Withdrawal member serial) = (member < 2 ^ 8) × (serial < 2 ^ 32)
 
 -- n bytes from a place on
-abbrev pub part : ℕ → ℕ → List ℕ → List ℕ
-part at n bytes = take n (drop at bytes)
+abbrev pub bytesAt : ℕ → ℕ → List ℕ → List ℕ
+bytesAt at n bytes = take n (drop at bytes)

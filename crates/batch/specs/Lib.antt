@@ -1,4 +1,5 @@
 pub mod Layout
+pub mod Marks
 pub mod Reading
 pub mod Records
 pub mod Standing

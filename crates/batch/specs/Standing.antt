@@ -1,8 +1,8 @@
 -- What stands at a place of a batch. Assumes nothing.
 use mathlib.Core.Bool.{cond, _&&_}
 use mathlib.Core.List.{List, [], _∷_}
-use mathlib.Core.Path.{_≡_}
 use Prim.Native.Nat.{ℕ, _≤_}
+use mathlib.Core.Path.{_≡_}
 use lib.Dec.{eqb, leb}
 use lib.ListN.{length, take}
 use Rattle.std.specs.declared.option.Option.{Option}
@@ -23,7 +23,7 @@ pub data Standing : Type 0 where
   a-record : ℕ → List ℕ → Standing
   unreadable : Refusal → Standing
 
--- how many bytes of fields stand behind a mark
+-- how many bytes of fields stand behind two bytes, if they are a mark
 abbrev pub fieldBytes : ℕ → ℕ → Option ℕ
 fieldBytes a b =
     cond (eqb a 0x4F && eqb b 0x42) (Some 13)
@@ -57,12 +57,12 @@ told (Ok None) = end
 told (Ok (Some found)) = a-record (found .place) (bytes (found .«record»))
 told (Err refusal) = unreadable refusal
 
--- the same of the record that the bytes from a place on begin with
+-- what the answer tells, of bytes that begin at a place
 abbrev pub toldFront : ℕ → Result Record Refusal → Standing
 toldFront place (Ok front) = a-record place (bytes front)
 toldFront place (Err refusal) = unreadable refusal
 
--- that record is as long as its kind says, and no longer than the bytes
+-- the record is as long as its kind says, and no longer than the bytes
 abbrev pub Measured : List ℕ → Result Record Refusal → Type 0
 Measured rest (Ok front) = (length (bytes front) ≡ size front) × (size front ≤ length rest)
 Measured rest (Err refusal) = Unit {0}

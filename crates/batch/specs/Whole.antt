@@ -1,4 +1,4 @@
--- What it means that a batch was read, told by the layout and not by the steps of the reader. Assumes nothing.
+-- What it means that a batch was read: a relation between its bytes, the entries and the layout of a request. Assumes nothing.
 use mathlib.Core.List.{List, [], _∷_, _++_, map}
 use mathlib.Core.Path.{_≡_}
 use Prim.Native.Nat.{ℕ, _+_}
@@ -10,7 +10,7 @@ use Rattle.figures.specs.declared.refusal.Refusal.{Refusal}
 use Rattle.batch.specs.declared.request.Entry.{Entry}
 use Rattle.batch.specs.declared.request.Request.{Request}
 use Rattle.batch.specs.declared.unread.Unread.{Unread}
-use Rattle.batch.specs.declared.unread.Unread.the-variants.{Refused, NoMemory}
+use Rattle.batch.specs.declared.unread.Unread.the-variants.{Unreadable, NoMemory}
 use Rattle.batch.specs.Layout.{layout, layouts, Fitting}
 use Rattle.batch.specs.Standing.{standing, unreadable}
 
@@ -34,17 +34,21 @@ pub record ReadToEnd (batch : List ℕ) (entries : List Entry) : Type 0 where
   pub only : (requests : List Request) → Holds batch requests → requests ≡ asked entries
   pub placed : Placed 0 entries
 
--- the batch begins with the records of the entries; behind them stands none, so that it holds no list of requests
-pub record Stopped (batch : List ℕ) (entries : List Entry) (refusal : Refusal) : Type 0 where
-  pub rest : List ℕ
+-- the batch begins with the records of the entries, and rest stands behind them
+pub record Front (batch : List ℕ) (entries : List Entry) (rest : List ℕ) : Type 0 where
   pub bytes : layouts (asked entries) ++ rest ≡ batch
   pub fitting : All Fitting (asked entries)
   pub placed : Placed 0 entries
+
+-- behind the records of the entries there is a place at which no record begins, so that the batch is not the records of any requests; the refusal is that of this place
+pub record Stopped (batch : List ℕ) (entries : List Entry) (refusal : Refusal) : Type 0 where
+  pub rest : List ℕ
+  pub front : Front batch entries rest
   pub none : (request : Request) (tail : List ℕ) → Fitting request → layout request ++ tail ≡ rest → ⊥
   pub never : (requests : List Request) → Holds batch requests → ⊥
   pub why : standing (length (layouts (asked entries))) rest ≡ unreadable refusal
 
 abbrev pub Reads : List ℕ → List Entry → Result (Unit {0}) Unread → Type 0
 Reads batch entries (Ok done) = ReadToEnd batch entries
-Reads batch entries (Err (Refused refusal)) = Stopped batch entries refusal
-Reads batch entries (Err NoMemory) = Unit {0}
+Reads batch entries (Err (Unreadable refusal)) = Stopped batch entries refusal
+Reads batch entries (Err NoMemory) = (rest : List ℕ) × Front batch entries rest

@@ -3,11 +3,11 @@ ghost use mathlib.Core.Path.{_≡_};
 ghost use Rattle.batch.specs.Layout.{word};
 
 mod limit;
-mod market;
+mod order;
 mod withdrawal;
 
 pub use limit::LimitFields;
-pub use market::MarketFields;
+pub use order::OrderFields;
 pub use withdrawal::WithdrawalFields;
 
 // The number that four bytes spell, highest first.

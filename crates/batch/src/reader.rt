@@ -6,7 +6,7 @@ ghost use lib.ListN.{length};
 mod calls;
 mod front;
 
-/// Stands at a place of a batch, between two records.
+/// Stands at a place of a batch, behind the records that it gave.
 #[derive(Drop)]
 pub struct Reader<'a> {
     batch: &'a [u8],

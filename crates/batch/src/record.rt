@@ -3,7 +3,7 @@ ghost use mathlib.Core.Path.{_≡_};
 ghost use Rattle.batch.specs.Layout.{layout, Fitting};
 ghost use Rattle.batch.specs.Records.{bytes, size};
 use crate::fields::LimitFields;
-use crate::fields::MarketFields;
+use crate::fields::OrderFields;
 use crate::fields::WithdrawalFields;
 use crate::request::Request;
 
@@ -12,8 +12,8 @@ use crate::request::Request;
 pub enum Record<'a> {
     Bid(LimitFields<'a>),
     Ask(LimitFields<'a>),
-    MarketBid(MarketFields<'a>),
-    MarketAsk(MarketFields<'a>),
+    MarketBid(OrderFields<'a>),
+    MarketAsk(OrderFields<'a>),
     Withdrawal(WithdrawalFields<'a>),
 }
 
@@ -43,11 +43,11 @@ impl Record<'_> {
     {
         match self {
             Record::Bid(fields) => Request::Bid {
-                terms: fields.market().terms(),
+                terms: fields.order().terms(),
                 limit: fields.limit(),
             },
             Record::Ask(fields) => Request::Ask {
-                terms: fields.market().terms(),
+                terms: fields.order().terms(),
                 limit: fields.limit(),
             },
             Record::MarketBid(fields) => Request::MarketBid {

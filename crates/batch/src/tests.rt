@@ -6,68 +6,13 @@ use crate::whole::read_all;
 use figures::refusal::*;
 use std::test::*;
 
-// One record of each kind.
-const SAMPLE: [u8; 59] = [
-    0x4F,
-    0x42,
-    0,
-    0,
-    0,
-    0,
-    101,
-    0,
-    0,
-    0x13,
-    0x88,
-    0,
-    0,
-    0x11,
-    0x94, // bid
-    0x4F,
-    0x41,
-    1,
-    0,
-    0,
-    0,
-    101,
-    0,
-    0,
-    0x0B,
-    0xB8,
-    0xFF,
-    0xFF,
-    0xFF,
-    0x06, // ask
-    0x4D,
-    0x42,
-    2,
-    0,
-    0,
-    0,
-    102,
-    0,
-    0,
-    0,
-    200, // market bid
-    0x4D,
-    0x41,
-    255,
-    255,
-    255,
-    255,
-    255,
-    255,
-    255,
-    255,
-    255, // market ask
-    0x4F,
-    0x57,
-    3,
-    0xEE,
-    0x6B,
-    0x28,
-    0, // withdrawal
-];
+// One record of each kind: bid, ask, market bid, market ask, withdrawal.
+const SAMPLE: &[u8; 59] = b"\
+    OB\x00\x00\x00\x00\x65\x00\x00\x13\x88\x00\x00\x11\x94\
+    OA\x01\x00\x00\x00\x65\x00\x00\x0B\xB8\xFF\xFF\xFF\x06\
+    MB\x02\x00\x00\x00\x66\x00\x00\x00\xC8\
+    MA\xFF\xFF\xFF\xFF\xFF\xFF\xFF\xFF\xFF\
+    OW\x03\xEE\x6B\x28\x00";
 
 // Where its records begin.
 const STARTS: [usize; 5] = [0, 15, 30, 41, 52];
@@ -81,7 +26,7 @@ fn terms(member: u8, hour: u32, energy: u32) -> Terms {
 }
 
 fn stops(reason: Reason) -> Result<(), Unread> {
-    Err(Unread::Refused(Refusal {
+    Err(Unread::Unreadable(Refusal {
         part: Part::Reader,
         reason,
     }))
@@ -90,7 +35,7 @@ fn stops(reason: Reason) -> Result<(), Unread> {
 #[test]
 fn every_kind_is_read(rt: LibcRuntime) -> Result<(), Fail> {
     let mut entries = Vec::new(rt.alloc());
-    check_eq(read_all(&SAMPLE, &mut entries), Ok(()))?;
+    check_eq(read_all(SAMPLE, &mut entries), Ok(()))?;
     let found = [
         Request::Bid {
             terms: terms(0, 101, 5000),
@@ -123,14 +68,15 @@ fn every_kind_is_read(rt: LibcRuntime) -> Result<(), Fail> {
 #[test]
 fn every_prefix_ends_at_a_record_or_is_cut_short(rt: LibcRuntime) -> Result<(), Fail> {
     let mut entries = Vec::new(rt.alloc());
+    let sample = *SAMPLE;
     let mut start = 0;
     for n in 0..59usize {
         if STARTS.contains(&n) {
             start = n;
-            check_eq(read_all(&SAMPLE[0..n], &mut entries), Ok(()))?;
+            check_eq(read_all(&sample[0..n], &mut entries), Ok(()))?;
         } else {
             let cut = stops(Reason::CutShort { place: start });
-            check_eq(read_all(&SAMPLE[0..n], &mut entries), cut)?;
+            check_eq(read_all(&sample[0..n], &mut entries), cut)?;
         }
     }
     Ok(())
@@ -143,7 +89,7 @@ fn a_wrong_mark_stops_at_its_record(rt: LibcRuntime) -> Result<(), Fail> {
         let place = *start;
         check(place < 58)?;
         for at in place..place + 2 {
-            let mut batch = SAMPLE;
+            let mut batch = *SAMPLE;
             batch[at] = 0x43;
             let end = read_all(&batch, &mut entries);
             check_eq(end, stops(Reason::UnknownMark { place }))?;

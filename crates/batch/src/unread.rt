@@ -1,6 +1,6 @@
 // Why a batch was not read to its end.
 ghost use mathlib.Core.Path.{_≡_};
-ghost use Rattle.batch.specs.declared.unread.Unread.the-variants.{Refused as Stopped, NoMemory};
+ghost use Rattle.batch.specs.declared.unread.Unread.the-variants.{Unreadable, NoMemory};
 use figures::refusal::Refusal;
 use figures::refusal::RefusalDebug;
 use figures::refusal::RefusalPartialEq;
@@ -9,15 +9,15 @@ use std::alloc::Refused;
 /// A place at which no record can be read, or want of memory for the entries.
 #[derive(Clone, Copy, Debug, PartialEq, Eq)]
 pub enum Unread {
-    Refused(Refusal),
+    Unreadable(Refusal),
     NoMemory,
 }
 
 pub impl From<Refusal> for Unread as UnreadFromRefusal {
-    ghost converts = { λ refusal r. r ≡ Stopped refusal };
+    ghost converts = { λ refusal r. r ≡ Unreadable refusal };
 
     fn from(refusal: Refusal) -> Unread {
-        Unread::Refused(refusal)
+        Unread::Unreadable(refusal)
     }
 }
 

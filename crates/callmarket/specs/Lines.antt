@@ -6,11 +6,11 @@ use Rattle.std.specs.Written.{decimal, signed}
 use Rattle.figures.specs.Refusals.{notice}
 use Rattle.batch.specs.Texts.{requestText}
 use Rattle.callmarket.specs.declared.line.Line.{Line}
-use Rattle.callmarket.specs.declared.line.Line.the-variants.{Call, Record, Unreadable, TooLong}
+use Rattle.callmarket.specs.declared.line.Line.the-variants.{Call, Listed, Unreadable, TooLong}
 
 abbrev pub lineText : Line → List ℕ
 lineText (Call hour) = codes "CALL " ++ decimal hour
-lineText (Record entry) = codes "RECORD " ++ (decimal (entry .place) ++ (codes " " ++ requestText (entry .request)))
+lineText (Listed entry) = codes "RECORD " ++ (decimal (entry .place) ++ (codes " " ++ requestText (entry .request)))
 lineText (Unreadable refusal) = codes "UNREADABLE " ++ (signed (notice (refusal .reason) .figure) ++ (codes " " ++ decimal (notice (refusal .reason) .number)))
 lineText TooLong = codes "TOO LONG"
 

@@ -7,23 +7,23 @@ use Rattle.std.specs.declared.result.Result.{Result}
 use Rattle.std.specs.declared.result.Result.the-variants.{Ok, Err}
 use Rattle.batch.specs.declared.request.Entry.{Entry}
 use Rattle.batch.specs.declared.unread.Unread.{Unread}
-use Rattle.batch.specs.declared.unread.Unread.the-variants.{Refused, NoMemory}
+use Rattle.batch.specs.declared.unread.Unread.the-variants.{Unreadable as Stopped, NoMemory}
 use Rattle.batch.specs.Whole.{Reads}
 use Rattle.callmarket.specs.declared.line.Line.{Line}
-use Rattle.callmarket.specs.declared.line.Line.the-variants.{Call, Record, Unreadable, TooLong}
+use Rattle.callmarket.specs.declared.line.Line.the-variants.{Call, Listed, Unreadable, TooLong}
 
--- what follows the lines of the records: the first place at which the batch cannot be read, if there is one
+-- what follows the lines of the call and the records: the refusal at which reading stopped, if it did
 abbrev pub Ended : Result (Unit {0}) Unread → List Line → List Line → Type 0
-Ended (Ok done) records lines = lines ≡ records
-Ended (Err (Refused refusal)) records lines = lines ≡ records ++ Unreadable refusal ∷ []
-Ended (Err NoMemory) records lines = ⊥
+Ended (Ok done) before lines = lines ≡ before
+Ended (Err (Stopped refusal)) before lines = lines ≡ before ++ Unreadable refusal ∷ []
+Ended (Err NoMemory) before lines = ⊥
 
 -- the call, a line for each record that was read, and the end
 pub record Lists (batch : List ℕ) (lines : List Line) : Type 0 where
   pub entries : List Entry
   pub result : Result (Unit {0}) Unread
   pub reads : Reads batch entries result
-  pub ended : Ended result (Call 100 ∷ map Record entries) lines
+  pub ended : Ended result (Call 100 ∷ map Listed entries) lines
 
 -- the lines for what was given: more than 32,768 bytes are no batch
 pub record Says (input : List ℕ) (lines : List Line) : Type 0 where

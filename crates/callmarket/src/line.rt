@@ -10,7 +10,7 @@ use std::fmt;
 #[derive(Clone, Copy)]
 pub enum Line {
     Call { hour: u32 },
-    Record(Entry),
+    Listed(Entry),
     Unreadable(Refusal),
     TooLong,
 }
@@ -21,7 +21,7 @@ pub impl fmt::Display for Line as LineDisplay {
     fn fmt<W: fmt::Write>(&self, f: &mut fmt::Formatter<W>) -> fmt::Result {
         match self {
             Line::Call { hour } => write!(f, "CALL {hour}"),
-            Line::Record(entry) => {
+            Line::Listed(entry) => {
                 let place = entry.place;
                 let request = entry.request;
                 write!(f, "RECORD {place} {request}")

@@ -4,7 +4,7 @@ ghost use mathlib.Core.Path.{_≡_};
 ghost use Rattle.std.specs.Of.Vec.{vec-items};
 ghost use Rattle.std.specs.Vec.{made};
 ghost use Rattle.callmarket.specs.Listing.{Lists, Ended, Says};
-ghost use Rattle.callmarket.specs.declared.line.Line.the-variants.{Record};
+ghost use Rattle.callmarket.specs.declared.line.Line.the-variants.{Listed};
 use crate::line::Line;
 use batch::request::Entry;
 use batch::unread::Unread;
@@ -49,10 +49,10 @@ fn list_batch(heap: Global, batch: &[u8]) -> Result<Vec<Line>, AllocError>
 
 // Adds a line for each entry.
 fn add_records(lines: &mut Vec<Line>, entries: &[Entry]) -> Result<(), AllocError>
-    ensures { λ r. ⌜ made r (λ _. vec-items (now (lines .exit)) ≡ vec-items (now (lines .entry)) ++ map Record (now (entries .entry))) ⌝ }
+    ensures { λ r. ⌜ made r (λ _. vec-items (now (lines .exit)) ≡ vec-items (now (lines .entry)) ++ map Listed (now (entries .entry))) ⌝ }
 {
     for entry in entries {
-        lines.push(Line::Record(*entry))?;
+        lines.push(Line::Listed(*entry))?;
     }
     Ok(())
 }
@@ -63,7 +63,7 @@ fn add_end(lines: &mut Vec<Line>, end: Result<(), Unread>) -> Result<(), AllocEr
 {
     match end {
         Ok(()) => {}
-        Err(Unread::Refused(refusal)) => lines.push(Line::Unreadable(refusal))?,
+        Err(Unread::Unreadable(refusal)) => lines.push(Line::Unreadable(refusal))?,
         Err(Unread::NoMemory) => return Err(AllocError),
     }
     Ok(())

@@ -1,2 +1,2 @@
-// The figures that every part of the market shares.
+// What all parts of the market share.
 pub mod refusal;

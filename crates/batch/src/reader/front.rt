@@ -4,9 +4,9 @@ ghost use Prim.Native.Nat.{_≤_, _<_};
 ghost use lib.ListN.{length, take};
 ghost use Rattle.std.specs.Results.{Cases};
 ghost use Rattle.figures.specs.declared.refusal.Reason.the-variants.{CutShort};
-ghost use Rattle.batch.specs.Standing.{standing, toldFront, Measured, unreadable, refuse};
+ghost use Rattle.batch.specs.Standing.{standing, unreadable, refuse, toldFront, Measured};
 use crate::fields::LimitFields;
-use crate::fields::MarketFields;
+use crate::fields::OrderFields;
 use crate::fields::WithdrawalFields;
 use crate::record::Record;
 use figures::refusal::Part;
@@ -20,23 +20,23 @@ pub(super) fn front<'a>(rest: &'a [u8], place: usize) -> Result<Record<'a>, Refu
     ensures measured { λ r. ⌜ Measured (now (rest .entry)) r ⌝ }
 {
     match rest {
-        [0x4F, 0x42, fields @ ..] => Ok(Record::Bid(LimitFields(whole(fields, place)?))),
-        [0x4F, 0x41, fields @ ..] => Ok(Record::Ask(LimitFields(whole(fields, place)?))),
-        [0x4D, 0x42, fields @ ..] => Ok(Record::MarketBid(MarketFields(whole(fields, place)?))),
-        [0x4D, 0x41, fields @ ..] => Ok(Record::MarketAsk(MarketFields(whole(fields, place)?))),
-        [0x4F, 0x57, fields @ ..] => Ok(Record::Withdrawal(WithdrawalFields(
-            whole(fields, place)?,
+        [0x4F, 0x42, rest @ ..] => Ok(Record::Bid(LimitFields(take_fields(rest, place)?))),
+        [0x4F, 0x41, rest @ ..] => Ok(Record::Ask(LimitFields(take_fields(rest, place)?))),
+        [0x4D, 0x42, rest @ ..] => Ok(Record::MarketBid(OrderFields(take_fields(rest, place)?))),
+        [0x4D, 0x41, rest @ ..] => Ok(Record::MarketAsk(OrderFields(take_fields(rest, place)?))),
+        [0x4F, 0x57, rest @ ..] => Ok(Record::Withdrawal(WithdrawalFields(
+            take_fields(rest, place)?,
         ))),
         [_, _, ..] => Err(refusal(Reason::UnknownMark { place })),
         _ => Err(refusal(Reason::CutShort { place })),
     }
 }
 
-// The first N bytes of `fields`, which are those of the record at `place`.
-fn whole<'a, const N: usize>(fields: &'a [u8], place: usize) -> Result<&'a [u8; N], Refusal>
-    ensures { λ r. ⌜ Cases r (λ bytes. (N ≤ length (now (fields .entry))) × (now bytes ≡ take N (now (fields .entry)))) (λ refusal. (length (now (fields .entry)) < N) × (unreadable refusal ≡ refuse (CutShort place))) ⌝ }
+// The first N bytes of `rest`, which stands behind the mark of the record at `place`.
+fn take_fields<'a, const N: usize>(rest: &'a [u8], place: usize) -> Result<&'a [u8; N], Refusal>
+    ensures { λ r. ⌜ Cases r (λ bytes. (N ≤ length (now (rest .entry))) × (now bytes ≡ take N (now (rest .entry)))) (λ refusal. (length (now (rest .entry)) < N) × (unreadable refusal ≡ refuse (CutShort place))) ⌝ }
 {
-    match fields.first_chunk::<N>() {
+    match rest.first_chunk::<N>() {
         Some(bytes) => Ok(bytes),
         None => Err(refusal(Reason::CutShort { place })),
     }

@@ -1,16 +1,16 @@
-// The fields of an order at market.
+// The fields that every order has; one at market has no others.
 ghost use mathlib.Core.List.{[], _∷_};
 ghost use mathlib.Core.Path.{_≡_};
 ghost use lib.ListN.{take, drop};
-ghost use Rattle.batch.specs.Layout.{part, word, termsLayout, FittingTerms};
+ghost use Rattle.batch.specs.Layout.{bytesAt, word, termsLayout, FittingTerms};
 use crate::fields::number;
 use crate::request::Terms;
 
 /// Member (1 byte), hour (4) and energy (4).
 #[derive(Clone, Copy)]
-pub struct MarketFields<'a>(pub &'a [u8; 9]);
+pub struct OrderFields<'a>(pub &'a [u8; 9]);
 
-impl MarketFields<'_> {
+impl OrderFields<'_> {
     pub fn member(self) -> u8
         ensures { λ r. ⌜ take 1 (now (self .entry .0)) ≡ r ∷ [] ⌝ }
     {
@@ -19,7 +19,7 @@ impl MarketFields<'_> {
     }
 
     pub fn hour(self) -> u32
-        ensures { λ r. ⌜ part 1 4 (now (self .entry .0)) ≡ word r ⌝ }
+        ensures { λ r. ⌜ bytesAt 1 4 (now (self .entry .0)) ≡ word r ⌝ }
     {
         let [_, a, b, c, d, ..] = self.0;
         u32::from_be_bytes([*a, *b, *c, *d])
