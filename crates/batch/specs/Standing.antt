@@ -1,5 +1,5 @@
 -- What stands at a place of a batch. Assumes nothing.
-use mathlib.Core.Bool.{cond, _&&_}
+use mathlib.Core.Bool.{Bool, false, cond, _&&_}
 use mathlib.Core.List.{List, [], _∷_}
 use Prim.Native.Nat.{ℕ, _≤_}
 use mathlib.Core.Path.{_≡_}
@@ -15,6 +15,7 @@ use Rattle.figures.specs.declared.refusal.Reason.the-variants.{UnknownMark, Cut
 use Rattle.figures.specs.declared.refusal.Refusal.{Refusal}
 use Rattle.batch.specs.declared.record.Found.{Found}
 use Rattle.batch.specs.declared.record.Record.{Record}
+use Rattle.batch.specs.Marks.{bidMark, askMark, marketBidMark, marketAskMark, withdrawalMark}
 use Rattle.batch.specs.Records.{bytes, size}
 
 -- the end of the batch, a record by its place and its bytes, or neither
@@ -23,14 +24,20 @@ pub data Standing : Type 0 where
   a-record : ℕ → List ℕ → Standing
   unreadable : Refusal → Standing
 
+-- whether two bytes are a mark
+abbrev pub areMark : List ℕ → ℕ → ℕ → Bool
+areMark [] a b = false
+areMark (m ∷ []) a b = false
+areMark (m ∷ n ∷ more) a b = eqb a m && eqb b n
+
 -- how many bytes of fields stand behind two bytes, if they are a mark
 abbrev pub fieldBytes : ℕ → ℕ → Option ℕ
 fieldBytes a b =
-    cond (eqb a 0x4F && eqb b 0x42) (Some 13)
-    (cond (eqb a 0x4F && eqb b 0x41) (Some 13)
-    (cond (eqb a 0x4D && eqb b 0x42) (Some 9)
-    (cond (eqb a 0x4D && eqb b 0x41) (Some 9)
-    (cond (eqb a 0x4F && eqb b 0x57) (Some 5) None))))
+    cond (areMark bidMark a b) (Some 13)
+    (cond (areMark askMark a b) (Some 13)
+    (cond (areMark marketBidMark a b) (Some 9)
+    (cond (areMark marketAskMark a b) (Some 9)
+    (cond (areMark withdrawalMark a b) (Some 5) None))))
 
 abbrev pub refuse : Reason → Standing
 refuse why = unreadable (record { part = Reader; reason = why })
