@@ -1,4 +1,6 @@
 // The reader of order batches. docs/FORMATS.md has the layout.
+#![tactic(auto)]
+
 pub mod fields;
 pub mod reader;
 pub mod record;

@@ -1,4 +1,6 @@
 // The program: runs each kind of book at three sizes, and prints a table of what it measured.
+#![tactic(auto)]
+
 ghost use Rattle.std.specs.Prelude.{◌≤◌};
 
 use figures::bounds::MOST_PLACES;

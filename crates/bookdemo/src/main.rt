@@ -1,5 +1,7 @@
 // Shows that every kind of book and every ranking is used through the same calls: the same orders are
 // put into shelves and piles, of bids, of asks and of bids under another ranking, and read back.
+#![tactic(auto)]
+
 mod latest;
 mod orders;
 mod show;

@@ -1,4 +1,6 @@
 // The program: reads a batch of orders from standard input, and prints what it holds.
+#![tactic(auto)]
+
 mod line;
 mod listing;
 mod output;
