@@ -28,10 +28,10 @@ pub trait Book<S: Side> {
     /// Adds an order at its ranked position.
     fn put(&mut self, order: Order) -> Result<(), Refusal>
         ensures answer { result ≡ put_answer (capacity self.old) (list self.old) order }
-        ensures list { list self.new ≡ accepted result (ranked_in (sooner Rank-as-Ranking.first) order (list self.old)) (list self.old) }
+        ensures list { list self.new ≡ accepted result (ranked_in (sooner S.Rank.Ranking.first) order (list self.old)) (list self.old) }
         ensures untouched { Untouched result (places self.new) (places self.old) }
         ensures capacity { capacity self.new ≡ capacity self.old }
-        ensures ranked { StaysRanked (sooner Rank-as-Ranking.first) (list self.old) (list self.new) };
+        ensures ranked { StaysRanked (sooner S.Rank.Ranking.first) (list self.old) (list self.new) };
 
     /// How many orders rest.
     fn count(&self) -> usize
@@ -59,19 +59,19 @@ pub trait Book<S: Side> {
         ensures list { list self.new ≡ accepted result (cut_list hour energy (list self.old)) (list self.old) }
         ensures untouched { Untouched result (places self.new) (places self.old) }
         ensures capacity { capacity self.new ≡ capacity self.old }
-        ensures ranked { StaysRanked (sooner Rank-as-Ranking.first) (list self.old) (list self.new) };
+        ensures ranked { StaysRanked (sooner S.Rank.Ranking.first) (list self.old) (list self.new) };
 
     /// Removes the order with `serial`, and answers it.
     fn withdraw(&mut self, serial: u32) -> Option<Order>
         ensures answer { result ≡ first_that (with_serial serial) (list self.old) }
         ensures list { list self.new ≡ without_first (with_serial serial) (list self.old) }
         ensures capacity { capacity self.new ≡ capacity self.old }
-        ensures ranked { StaysRanked (sooner Rank-as-Ranking.first) (list self.old) (list self.new) };
+        ensures ranked { StaysRanked (sooner S.Rank.Ranking.first) (list self.old) (list self.new) };
 
     /// Removes the orders of `hour`, and answers their total energy.
     fn drop_hour(&mut self, hour: u32) -> u64
         ensures answer { result ≡ total_energy (filter (of_hour hour) (list self.old)) }
         ensures list { list self.new ≡ other_hours hour (list self.old) }
         ensures capacity { capacity self.new ≡ capacity self.old }
-        ensures ranked { StaysRanked (sooner Rank-as-Ranking.first) (list self.old) (list self.new) };
+        ensures ranked { StaysRanked (sooner S.Rank.Ranking.first) (list self.old) (list self.new) };
 }

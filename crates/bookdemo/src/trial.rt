@@ -9,10 +9,10 @@ use sides::side::Side;
 
 /// Puts each order, and answers how many the book accepted.
 pub fn put_all<S: Side, B: Book<S>>(book: &mut B, orders: &[Order]) -> usize
-    ensures answer { result ≡ count_put (sooner Rank-as-Ranking.first) (B.Book.capacity book.old) (B.Book.list book.old) orders.now }
-    ensures list { B.Book.list book.new ≡ all_put (sooner Rank-as-Ranking.first) (B.Book.capacity book.old) (B.Book.list book.old) orders.now }
+    ensures answer { result ≡ count_put (sooner S.Rank.Ranking.first) (B.Book.capacity book.old) (B.Book.list book.old) orders.now }
+    ensures list { B.Book.list book.new ≡ all_put (sooner S.Rank.Ranking.first) (B.Book.capacity book.old) (B.Book.list book.old) orders.now }
     ensures capacity { B.Book.capacity book.new ≡ B.Book.capacity book.old }
-    ensures ranked { StaysRanked (sooner Rank-as-Ranking.first) (B.Book.list book.old) (B.Book.list book.new) }
+    ensures ranked { StaysRanked (sooner S.Rank.Ranking.first) (B.Book.list book.old) (B.Book.list book.new) }
 {
     let mut accepted = 0;
     for order in orders {

@@ -17,10 +17,10 @@ pub trait Side {
 
 /// A side that buys.
 pub trait BidSide: Side {
-    ghost buys: { BidSide.Rank.Ranking.direction ≡ buying };
+    ghost buys: { Self.Rank.Ranking.direction ≡ buying };
 }
 
 /// A side that sells.
 pub trait AskSide: Side {
-    ghost sells: { Rank-as-Ranking.direction ≡ selling };
+    ghost sells: { Self.Rank.Ranking.direction ≡ selling };
 }

@@ -25,7 +25,7 @@ impl<'a, S: Side + Drop> Pile<'a, S> {
     /// An empty pile over the places, whatever stands in them.
     pub fn new(side: S, orders: &'a mut [Order]) -> Result<Pile<'a, S>, Refusal>
         ensures answer { made_answer result ≡ checked_places (length orders.old) }
-        ensures made { IfOk result (λ pile. (size pile.places ≡ length orders.old) × (sorted (sooner Rank-as-Ranking.first) (held pile.places) ≡ [])) }
+        ensures made { IfOk result (λ pile. (size pile.places ≡ length orders.old) × (sorted (sooner S.Rank.Ranking.first) (held pile.places) ≡ [])) }
     {
         let places = Places::over(orders)?;
         Ok(Pile { side, places })
@@ -35,11 +35,11 @@ impl<'a, S: Side + Drop> Pile<'a, S> {
 impl<'a, S: Side> Book<S> for Pile<'a, S> {
     ghost capacity = { λ pile. size pile.places };
 
-    ghost list = { λ pile. sorted (sooner Rank-as-Ranking.first) (held pile.places) };
+    ghost list = { λ pile. sorted (sooner S.Rank.Ranking.first) (held pile.places) };
 
     ghost places = { λ pile. pile.places.orders.now };
 
-    ghost sound = { λ pile. sorted_sound (sooner Rank-as-Ranking.first) pile.places pile.filled };
+    ghost sound = { λ pile. sorted_sound (sooner S.Rank.Ranking.first) pile.places pile.filled };
 
     fn put(&mut self, order: Order) -> Result<(), Refusal> {
         self.places.put_last(order)

@@ -15,14 +15,14 @@ returns-in-err-found c =
 
 pub loop-found-preserved : goal.loop-found-preserved
 loop-found-preserved c =
-    let next = c.in-ok-found.ensures in
+    let next = c.in_ok-found.ensures in
     let stands = sym (ap (λ o. told (Ok o)) c.in-Some.is) ∙ next.answer in
-    let pushed = c.in-ok-push.ensures.items in
+    let pushed = c.in_ok-push.ensures.items in
     (one_more c.loop-found.invariant.0 c.in-Some.found c.request.result c.next.new.self _ stands c.request.ensures.layout c.request.ensures.fitting next.place next.batch pushed, search rules)
 
 pub returns : goal.returns
 returns c =
-    let stands = sym (ap (λ o. told (Ok o)) c.in-default.is) ∙ c.in-ok-found.ensures.answer in
+    let stands = sym (ap (λ o. told (Ok o)) c.in_default.is) ∙ c.in_ok-found.ensures.answer in
     record { reads = ended c.loop-found.invariant.0 stands; room = λ bad. absurd (let z : ◌≡◌ {A = ℕ} 0 1 = cc in omega arith) }
 
 pub returns-in-err-push : goal.returns-in-err-push

@@ -15,4 +15,4 @@ insert-at-requires g c =
 pub returns-in-Some : goal.returns-in-Some
 returns-in-Some g c =
     let e : Some c.in-Some.at ≡ rank_for (sooner g.R.Ranking.first) c.args.order (take c.args.count c.args.places.now) = search rules in
-    record { answer = room_left _ _ c.args.order c.if-count-capacity.false (rank_found (sooner g.R.Ranking.first) c.args.order (take c.args.count c.args.places.now) _ e).0; after = c.insert-at.ensures ∙ ap (λ xs. xs ++ drop (c.args.count + 1) c.args.places.now) (inserted_at_rank (sooner g.R.Ranking.first) c.args.order (take c.args.count c.args.places.now) _ e) }
+    record { answer = room_left _ _ c.args.order c.if-count-capacity.false (rank_found (sooner g.R.Ranking.first) c.args.order (take c.args.count c.args.places.now) _ e).0; after = c.insert_at.ensures ∙ ap (λ xs. xs ++ drop (c.args.count + 1) c.args.places.now) (inserted_at_rank (sooner g.R.Ranking.first) c.args.order (take c.args.count c.args.places.now) _ e) }
