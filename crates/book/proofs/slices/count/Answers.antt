@@ -2,11 +2,11 @@ use Rattle.std.proofs.Common.{sym, ◌∙◌, rules}
 use Rattle.figures.specs.Orders.{blank}
 use Rattle.book.proofs.Scans.{count_additive, summed_more_yes, summed_more_no, summed_all}
 use Rattle.book.proofs.slices.count.Goals as goal
-use Rattle.book.proofs.slices.count.Goals.{then-passed-by, else-passed-by}
+use Rattle.book.proofs.slices.count.Goals.{then-passed_by, else-passed_by}
 
 pub loop-order-preserved : goal.loop-order-preserved
 loop-order-preserved g c =
-    elim c.if-passed-by.branch [ then-passed-by w ↦ rw w.count-is (summed_more_yes count_additive (g.C.Criterion.passes c.args.criterion.now) _ _ _ _ blank c.loop-order.invariant c.loop-order-test.true (sym c.passed-by.ensures ∙ w.if-passed-by.true) (search rules)) | else-passed-by w ↦ rw w.count-is (summed_more_no (g.C.Criterion.passes c.args.criterion.now) _ _ _ _ blank c.loop-order.invariant c.loop-order-test.true (sym c.passed-by.ensures ∙ w.if-passed-by.false)) ]
+    elim c.if-passed_by.branch [ then-passed_by w ↦ rw w.count-is (summed_more_yes count_additive (g.C.Criterion.passes c.args.criterion.now) _ _ _ _ blank c.loop-order.invariant c.loop-order-test.true (sym c.passed_by.ensures ∙ w.if-passed_by.true) (search rules)) | else-passed_by w ↦ rw w.count-is (summed_more_no (g.C.Criterion.passes c.args.criterion.now) _ _ _ _ blank c.loop-order.invariant c.loop-order-test.true (sym c.passed_by.ensures ∙ w.if-passed_by.false)) ]
 
 pub returns : goal.returns
 returns g c =

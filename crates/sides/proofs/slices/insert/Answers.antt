@@ -7,8 +7,8 @@ pub returns-then-count-capacity : goal.returns-then-count-capacity
 returns-then-count-capacity g c =
     record { answer = room_full _ _ c.args.order c.if-count-capacity.true; after = search rules }
 
-pub insert-at-requires : goal.insert-at-requires
-insert-at-requires g c =
+pub insert_at-requires : goal.insert_at-requires
+insert_at-requires g c =
     let e : Some c.in-Some.at ≡ rank_for (sooner g.R.Ranking.first) c.args.order (take c.args.count c.args.places.now) = search rules in
     (rank_within (sooner g.R.Ranking.first) c.args.order c.args.places.now _ _ e, c.if-count-capacity.false)
 

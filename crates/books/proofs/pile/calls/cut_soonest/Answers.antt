@@ -16,9 +16,9 @@ returns-in-Some g c =
     subst (λ xs. slice_get xs c.in-Some.at ≡ best c.args.hour (sorted before xs)) c.held.ensures c.in-Some.ensures.first in
     let is = cut_sorted g.R.Ranking.first (sooner_laws g.met.R.Ranking.lawful) c.args.hour c.args.energy (held c.args.places.now) c.in-Some.at c.requires.4 within found in
     record {
-      filled = c.cut-at.ensures.filled;
-      size = c.cut-at.ensures.size;
-      untouched = c.cut-at.ensures.untouched;
-      answer = c.cut-at.ensures.answer ∙ ap (taking c.args.energy) found;
-      list = ap (sorted before) c.cut-at.ensures.list ∙ (accepted_sorted before c.cut-at.result _ (held c.args.places.now) ∙ ap (λ new. accepted c.cut-at.result new (sorted before (held c.args.places.now))) is);
+      filled = c.cut_at.ensures.filled;
+      size = c.cut_at.ensures.size;
+      untouched = c.cut_at.ensures.untouched;
+      answer = c.cut_at.ensures.answer ∙ ap (taking c.args.energy) found;
+      list = ap (sorted before) c.cut_at.ensures.list ∙ (accepted_sorted before c.cut_at.result _ (held c.args.places.now) ∙ ap (λ new. accepted c.cut_at.result new (sorted before (held c.args.places.now))) is);
     }

@@ -7,7 +7,7 @@ use Rattle.books.proofs.Sorting.{slice_get_first, slice_get_next, sorted_ranked}
 use Rattle.books.proofs.pile.calls.listed_at.Goals as goal
 
 pub loop-passed-init : goal.loop-passed-init
-loop-passed-init g c = c.first-among-found.ensures ∙ sym (slice_get_first (sorted (sooner g.R.Ranking.first) c.args.orders.now))
+loop-passed-init g c = c.first_among-found.ensures ∙ sym (slice_get_first (sorted (sooner g.R.Ranking.first) c.args.orders.now))
 
 pub returns-in-None : goal.returns-in-None
 returns-in-None g c =
@@ -17,4 +17,4 @@ pub loop-passed-preserved : goal.loop-passed-preserved
 loop-passed-preserved g c =
     let before = sooner g.R.Ranking.first in
     let laws = sooner_laws g.met.R.Ranking.lawful in
-    c.first-among-found-in-Some.ensures ∙ sym (slice_get_next before laws (sorted before c.args.orders.now) c.loop-passed.-passed c.in-Some.order (sorted_ranked before laws c.args.orders.now c.requires) (sym c.loop-passed.invariant ∙ c.in-Some.is))
+    c.first_among-found-in-Some.ensures ∙ sym (slice_get_next before laws (sorted before c.args.orders.now) c.loop-passed.-passed c.in-Some.order (sorted_ranked before laws c.args.orders.now c.requires) (sym c.loop-passed.invariant ∙ c.in-Some.is))

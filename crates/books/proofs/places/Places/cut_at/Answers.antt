@@ -16,10 +16,10 @@ returns-then-energy-eq0 c =
 pub returns-then-energy-left-2 : goal.returns-then-energy-left-2
 returns-then-energy-left-2 c =
     record {
-      filled = c.take-at.ensures.filled;
-      size = c.take-at.ensures.size;
+      filled = c.take_at.ensures.filled;
+      size = c.take_at.ensures.size;
       answer = cut_accepted c.args.self.now.orders.now c.args.self.now.count c.args.at c.args.energy c.requires.within c.if-energy-eq0.false c.if-energy-left.false;
-      list = c.take-at.ensures.list ∙ cut_whole c.args.self.now.orders.now c.args.self.now.count c.args.at c.args.energy c.requires.within c.if-energy-left-2.true;
+      list = c.take_at.ensures.list ∙ cut_whole c.args.self.now.orders.now c.args.self.now.count c.args.at c.args.energy c.requires.within c.if-energy-left-2.true;
       untouched = tt;
     }
 

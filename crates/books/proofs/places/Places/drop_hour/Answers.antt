@@ -5,8 +5,8 @@ use Rattle.book.proofs.Sound.{each_filter, apart_filter}
 use Rattle.books.proofs.Holding.{refilled, lapsed_fits, room_for_kept, kept_in_front}
 use Rattle.books.proofs.places.Places.drop_hour.Goals as goal
 
-pub overflow-cast-result : goal.overflow-cast-result
-overflow-cast-result c =
+pub overflow_cast-result : goal.overflow_cast-result
+overflow_cast-result c =
     let fits = lapsed_fits c.args.hour c.args.self.now.orders.now _ c.args.self.now.count c.requires refl in
     let e : c.energy-lapsed.result ≡ total_energy (filter (of_hour c.args.hour) (take c.args.self.now.count c.args.self.now.orders.now)) =
     c.energy-lapsed.ensures ∙ ap (λ ys. total_energy (filter (of_hour c.args.hour) ys)) c.held.ensures in
@@ -14,9 +14,9 @@ overflow-cast-result c =
 
 pub returns : goal.returns
 returns c =
-    let is = kept_in_front (other_hours c.args.hour (take c.args.self.now.count c.args.self.now.orders.now)) _ c.remove-all-self.new.orders c.remove-all-self.result c.remove-all-self.ensures.answer c.remove-all-self.ensures.after in
+    let is = kept_in_front (other_hours c.args.hour (take c.args.self.now.count c.args.self.now.orders.now)) _ c.remove_all-self.new.orders c.remove_all-self.result c.remove_all-self.ensures.answer c.remove_all-self.ensures.after in
     record {
-      filled = refilled c.args.self.now.orders.now c.remove-all-self.new.orders (other_hours c.args.hour (take c.args.self.now.count c.args.self.now.orders.now)) _ _ c.requires c.remove-all-self.auto.orders (room_for_kept _ c.args.self.now.orders.now _ _ _ c.remove-all-self.ensures.answer c.remove-all-self.auto.orders) is (each_filter _ _ (take c.args.self.now.count c.args.self.now.orders.now) c.requires.3) (apart_filter _ (take c.args.self.now.count c.args.self.now.orders.now) c.requires.4);
+      filled = refilled c.args.self.now.orders.now c.remove_all-self.new.orders (other_hours c.args.hour (take c.args.self.now.count c.args.self.now.orders.now)) _ _ c.requires c.remove_all-self.auto.orders (room_for_kept _ c.args.self.now.orders.now _ _ _ c.remove_all-self.ensures.answer c.remove_all-self.auto.orders) is (each_filter _ _ (take c.args.self.now.count c.args.self.now.orders.now) c.requires.3) (apart_filter _ (take c.args.self.now.count c.args.self.now.orders.now) c.requires.4);
       size = search rules;
       answer = search rules;
       list = is;

@@ -10,9 +10,9 @@ pub returns : goal.returns
 returns g c =
     let before = sooner g.R.Ranking.first in
     let checked : checked_before c.args.order (Ok tt) ≡ Ok tt =
-    sym c.check.ensures ∙ unrefused c.check.result tt (sym c.by_book.ensures ∙ c.in-ok-by-book.was) in
+    sym c.check.ensures ∙ unrefused c.check.result tt (sym c.by_book.ensures ∙ c.in_ok-by_book.was) in
     let went : c.insert.result ≡ Ok tt =
-    unrefused c.insert.result tt (sym c.by-book-2.ensures ∙ c.in-ok-by-book-2.was) in
+    unrefused c.insert.result tt (sym c.by_book-2.ensures ∙ c.in_ok-by_book-2.was) in
     let room : room_for (length c.args.self.now.orders.now) (take c.args.self.now.count c.args.self.now.orders.now) c.args.order ≡ Ok tt =
     sym c.insert.ensures.answer ∙ went in
     let left = room_is c.args.self.now.orders.now c.args.self.now.count c.args.order room c.requires.2 in

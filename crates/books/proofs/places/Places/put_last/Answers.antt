@@ -10,9 +10,9 @@ use Rattle.books.proofs.places.Places.put_last.Goals as goal
 pub returns : goal.returns
 returns c =
     let checked : checked_before c.args.order (Ok tt) ≡ Ok tt =
-    sym c.check.ensures ∙ unrefused c.check.result tt (sym c.by_book.ensures ∙ c.in-ok-by-book.was) in
+    sym c.check.ensures ∙ unrefused c.check.result tt (sym c.by_book.ensures ∙ c.in_ok-by_book.was) in
     let room : room_for (length c.args.self.now.orders.now) (take c.args.self.now.count c.args.self.now.orders.now) c.args.order ≡ Ok tt =
-    sym c.check-room.ensures ∙ unrefused c.check-room.result tt (sym c.by-book-2.ensures ∙ c.in-ok-by-book-2.was) in
+    sym c.check_room.ensures ∙ unrefused c.check_room.result tt (sym c.by_book-2.ensures ∙ c.in_ok-by_book-2.was) in
     let left = room_is c.args.self.now.orders.now c.args.self.now.count c.args.order room c.requires.2 in
     let is = put_behind c.args.order c.args.self.now.orders.now c.args.self.now.count left.0 in
     record {

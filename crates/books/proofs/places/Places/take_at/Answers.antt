@@ -12,10 +12,10 @@ filled_without xs ys count more at fill long less is =
     let room = fill.2 in
     refilled xs ys (remove (take count xs) at) count more fill long (omega arith) is (each_removed _ (take count xs) at fill.3) (apart_removed (take count xs) at fill.4)
 
-pub returns-in-err-taken : goal.returns-in-err-taken
-returns-in-err-taken c =
+pub returns-in_err-taken : goal.returns-in_err-taken
+returns-in_err-taken c =
     let e : None ≡ slice_get (take c.args.self.now.count c.args.self.now.orders.now) c.args.at =
-    sym c.in-err-taken.was ∙ c.remove.ensures.answer in
+    sym c.in_err-taken.was ∙ c.remove.ensures.answer in
     let is = taken_none c.args.self.now.orders.now c.remove.new.orders c.args.self.now.count c.args.at e c.remove.ensures.after in
     record {
       filled = filled_without c.args.self.now.orders.now c.remove.new.orders _ _ c.args.at c.requires c.remove.auto.orders (omega arith) is;
@@ -26,8 +26,8 @@ returns-in-err-taken c =
 
 pub returns : goal.returns
 returns c =
-    let e : Some c.in-ok-taken.taken ≡ slice_get (take c.args.self.now.count c.args.self.now.orders.now) c.args.at =
-    sym c.in-ok-taken.was ∙ c.remove.ensures.answer in
+    let e : Some c.in_ok-taken.taken ≡ slice_get (take c.args.self.now.count c.args.self.now.orders.now) c.args.at =
+    sym c.in_ok-taken.was ∙ c.remove.ensures.answer in
     let is = taken_one c.args.self.now.orders.now c.remove.new.orders c.args.self.now.count c.args.at _ c.requires.2 e c.remove.ensures.after in
     record {
       filled = filled_without c.args.self.now.orders.now c.remove.new.orders _ _ c.args.at c.requires c.remove.auto.orders (omega arith) is;

@@ -9,10 +9,10 @@ returns-in-Some c =
     let found : Some c.in-Some.at ≡ place_of (with_serial c.args.serial) (take c.args.self.now.count c.args.self.now.orders.now) =
     c.in-Some.ensures ∙ ap (place_of (with_serial c.args.serial)) c.held.ensures in
     record {
-      filled = c.take-at.ensures.filled;
-      size = c.take-at.ensures.size;
-      answer = c.take-at.ensures.answer ∙ first_order (with_serial c.args.serial) (take c.args.self.now.count c.args.self.now.orders.now) _ found;
-      list = c.take-at.ensures.list ∙ first_taken (with_serial c.args.serial) (take c.args.self.now.count c.args.self.now.orders.now) _ found;
+      filled = c.take_at.ensures.filled;
+      size = c.take_at.ensures.size;
+      answer = c.take_at.ensures.answer ∙ first_order (with_serial c.args.serial) (take c.args.self.now.count c.args.self.now.orders.now) _ found;
+      list = c.take_at.ensures.list ∙ first_taken (with_serial c.args.serial) (take c.args.self.now.count c.args.self.now.orders.now) _ found;
     }
 
 pub returns-in-None : goal.returns-in-None

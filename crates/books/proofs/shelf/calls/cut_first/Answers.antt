@@ -11,11 +11,11 @@ returns-in-Some c =
     let found : Some c.in-Some.at ≡ place_of (of_hour c.args.hour) (take c.args.places.now.count c.args.places.now.orders.now) =
     c.in-Some.ensures ∙ ap (place_of (of_hour c.args.hour)) c.held.ensures in
     record {
-      filled = c.cut-at.ensures.filled;
-      size = c.cut-at.ensures.size;
-      untouched = c.cut-at.ensures.untouched;
-      answer = c.cut-at.ensures.answer ∙ ap (taking c.args.energy) (first_order (of_hour c.args.hour) (take c.args.places.now.count c.args.places.now.orders.now) _ found);
-      list = c.cut-at.ensures.list ∙ ap (λ new. accepted c.cut-at.result new (take c.args.places.now.count c.args.places.now.orders.now)) (first_cut c.args.hour c.args.energy (take c.args.places.now.count c.args.places.now.orders.now) _ found);
+      filled = c.cut_at.ensures.filled;
+      size = c.cut_at.ensures.size;
+      untouched = c.cut_at.ensures.untouched;
+      answer = c.cut_at.ensures.answer ∙ ap (taking c.args.energy) (first_order (of_hour c.args.hour) (take c.args.places.now.count c.args.places.now.orders.now) _ found);
+      list = c.cut_at.ensures.list ∙ ap (λ new. accepted c.cut_at.result new (take c.args.places.now.count c.args.places.now.orders.now)) (first_cut c.args.hour c.args.energy (take c.args.places.now.count c.args.places.now.orders.now) _ found);
     }
 
 pub returns-in-None : goal.returns-in-None
