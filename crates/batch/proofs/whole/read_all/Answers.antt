@@ -6,10 +6,10 @@ use Rattle.batch.proofs.whole.read_all.Goals as goal
 
 pub returns-in_err-found : goal.returns-in_err-found
 returns-in_err-found c =
-    let p = err_from_is_err_and c.from-residual.result c.from-residual.ensures.1 in
+    let p = err_from_is_err_and c.from_residual.result c.from_residual.ensures.1 in
     let is = p.1 ∙ ap Err p.2 in
     record {
-      reads = stuck c.loop-found.invariant.0 _ c.from-residual.result c.in_err-found.ensures.answer is;
+      reads = stuck c.loop-found.invariant.0 _ c.from_residual.result c.in_err-found.ensures.answer is;
       room = λ bad. absurd (no_want _ _ is bad);
     }
 
@@ -27,10 +27,10 @@ returns c =
 
 pub returns-in_err-push : goal.returns-in_err-push
 returns-in_err-push c =
-    let p = err_from_is_err_and c.from-residual-in_err-push.result c.from-residual-in_err-push.ensures.1 in
+    let p = err_from_is_err_and c.from_residual-in_err-push.result c.from_residual-in_err-push.ensures.1 in
     let stands = sym (ap (λ o. told (Ok o)) c.in-Some.is) ∙ c.in_ok-found.ensures.answer in
     let few = fewer c.loop-found.invariant.0 c.in-Some.found c.request.result stands c.request.ensures.layout in
     record {
-      reads = wanting c.loop-found.invariant.0 _ c.from-residual-in_err-push.result c.in_err-push.ensures.items (p.1 ∙ ap Err p.2);
+      reads = wanting c.loop-found.invariant.0 _ c.from_residual-in_err-push.result c.in_err-push.ensures.items (p.1 ∙ ap Err p.2);
       room = λ _. omega (arith, few, c.in_err-push.ensures.full, c.loop-found.entries.ok.0);
     }
