@@ -5,4 +5,4 @@ use Rattle.books.specs.Sorting.{sorted}
 use Rattle.books.proofs.pile.calls.listed_at.Given as goal
 
 abbrev pub invariant-loop-passed : goal.invariant-loop-passed
-invariant-loop-passed g l = l.found ≡ slice_get (sorted (sooner g.R.Ranking.first) l.orders) l.-passed
+invariant-loop-passed g l = l.found ≡ slice_get (sorted (sooner g.R.Ranking.first) l.orders) l._passed

@@ -8,4 +8,4 @@ use Rattle.books.proofs.pile.calls.PileBook.count.Goals as goal
 pub returns : goal.returns
 returns g c =
     let all : length (held c.args.self.now.places) ≡ c.args.self.now.places.count = length-take-le _ _ c.args.self.now.filled.2 in
-    sym (length_sorted (sooner g.Rank.Ranking.first) (held c.args.self.now.places) ∙ all)
+    sym (length_sorted (sooner g.S.Rank.Ranking.first) (held c.args.self.now.places) ∙ all)

@@ -7,4 +7,4 @@ use Rattle.books.proofs.pile.calls.PileBook.count_of.Goals as goal
 
 pub returns : goal.returns
 returns g c =
-    c.count.ensures ∙ (ap (λ xs. length (filter (of_hour c.args.hour) xs)) c.held.ensures ∙ sym (count_sorted (sooner g.Rank.Ranking.first) (of_hour c.args.hour) (held c.args.self.now.places)))
+    c.count.ensures ∙ (ap (λ xs. length (filter (of_hour c.args.hour) xs)) c.held.ensures ∙ sym (count_sorted (sooner g.S.Rank.Ranking.first) (of_hour c.args.hour) (held c.args.self.now.places)))

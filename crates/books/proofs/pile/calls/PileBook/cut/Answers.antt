@@ -11,5 +11,5 @@ returns g c =
       list = c.cut_soonest.ensures.list;
       untouched = c.cut_soonest.ensures.untouched;
       capacity = c.cut_soonest.ensures.size;
-      ranked = λ _. sorted_ranked (sooner g.Rank.Ranking.first) (sooner_laws g.met.Rank.Ranking.lawful) (held c.cut_soonest.new.places) c.cut_soonest.ensures.filled.4;
+      ranked = λ _. sorted_ranked (sooner g.S.Rank.Ranking.first) (sooner_laws g.met.S.Rank.Ranking.lawful) (held c.cut_soonest.new.places) c.cut_soonest.ensures.filled.4;
     }

@@ -9,9 +9,9 @@ use Rattle.books.proofs.pile.calls.PileBook.put.Goals as goal
 pub returns : goal.returns
 returns g c =
     record {
-      answer = c.put_last.ensures.answer ∙ put_answer_sorted (sooner g.Rank.Ranking.first) _ (held c.args.self.now.places) c.args.order;
-      list = put_sorted (sooner g.Rank.Ranking.first) (sooner_laws g.met.Rank.Ranking.lawful) c.put_last.result (held c.args.self.now.places) (held c.put_last.new.self) c.args.order c.put_last.ensures.list c.put_last.ensures.filled.4;
+      answer = c.put_last.ensures.answer ∙ put_answer_sorted (sooner g.S.Rank.Ranking.first) _ (held c.args.self.now.places) c.args.order;
+      list = put_sorted (sooner g.S.Rank.Ranking.first) (sooner_laws g.met.S.Rank.Ranking.lawful) c.put_last.result (held c.args.self.now.places) (held c.put_last.new.self) c.args.order c.put_last.ensures.list c.put_last.ensures.filled.4;
       untouched = c.put_last.ensures.untouched;
       capacity = c.put_last.ensures.size;
-      ranked = λ _. sorted_ranked (sooner g.Rank.Ranking.first) (sooner_laws g.met.Rank.Ranking.lawful) (held c.put_last.new.self) c.put_last.ensures.filled.4;
+      ranked = λ _. sorted_ranked (sooner g.S.Rank.Ranking.first) (sooner_laws g.met.S.Rank.Ranking.lawful) (held c.put_last.new.self) c.put_last.ensures.filled.4;
     }

@@ -10,8 +10,8 @@ use Rattle.books.proofs.pile.calls.PileBook.withdraw.Goals as goal
 pub returns : goal.returns
 returns g c =
     record {
-      answer = c.withdraw.ensures.answer ∙ sym (found_sorted (sooner g.Rank.Ranking.first) c.args.serial (held c.args.self.now.places) c.args.self.now.filled.4);
-      list = ap (sorted (sooner g.Rank.Ranking.first)) c.withdraw.ensures.list ∙ withdrawn_sorted (sooner g.Rank.Ranking.first) (sooner_laws g.met.Rank.Ranking.lawful) c.args.serial (held c.args.self.now.places) c.args.self.now.filled.4;
+      answer = c.withdraw.ensures.answer ∙ sym (found_sorted (sooner g.S.Rank.Ranking.first) c.args.serial (held c.args.self.now.places) c.args.self.now.filled.4);
+      list = ap (sorted (sooner g.S.Rank.Ranking.first)) c.withdraw.ensures.list ∙ withdrawn_sorted (sooner g.S.Rank.Ranking.first) (sooner_laws g.met.S.Rank.Ranking.lawful) c.args.serial (held c.args.self.now.places) c.args.self.now.filled.4;
       capacity = c.withdraw.ensures.size;
-      ranked = λ _. sorted_ranked (sooner g.Rank.Ranking.first) (sooner_laws g.met.Rank.Ranking.lawful) (held c.withdraw.new.self) c.withdraw.ensures.filled.4;
+      ranked = λ _. sorted_ranked (sooner g.S.Rank.Ranking.first) (sooner_laws g.met.S.Rank.Ranking.lawful) (held c.withdraw.new.self) c.withdraw.ensures.filled.4;
     }

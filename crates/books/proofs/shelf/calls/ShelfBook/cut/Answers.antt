@@ -11,5 +11,5 @@ returns g c =
       list = search rules;
       untouched = c.cut_first.ensures.untouched;
       capacity = search rules;
-      ranked = λ ranked. subst (Ranked (sooner g.Rank.Ranking.first)) (sym c.cut_first.ensures.list) (ranked_if (sooner g.Rank.Ranking.first) c.cut_first.result _ (held c.args.self.now.places) (ranked_cut g.Rank.Ranking.first c.args.hour c.args.energy (held c.args.self.now.places)) ranked);
+      ranked = λ ranked. subst (Ranked (sooner g.S.Rank.Ranking.first)) (sym c.cut_first.ensures.list) (ranked_if (sooner g.S.Rank.Ranking.first) c.cut_first.result _ (held c.args.self.now.places) (ranked_cut g.S.Rank.Ranking.first c.args.hour c.args.energy (held c.args.self.now.places)) ranked);
     }

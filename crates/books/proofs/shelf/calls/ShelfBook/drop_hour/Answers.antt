@@ -10,5 +10,5 @@ returns g c =
       answer = search rules;
       list = search rules;
       capacity = search rules;
-      ranked = λ ranked. subst (Ranked (sooner g.Rank.Ranking.first)) (sym c.drop_hour.ensures.list) (ranked_filter (sooner g.Rank.Ranking.first) _ (held c.args.self.now.places) ranked);
+      ranked = λ ranked. subst (Ranked (sooner g.S.Rank.Ranking.first)) (sym c.drop_hour.ensures.list) (ranked_filter (sooner g.S.Rank.Ranking.first) _ (held c.args.self.now.places) ranked);
     }

@@ -11,5 +11,5 @@ returns g c =
       answer = search rules;
       list = search rules;
       capacity = search rules;
-      ranked = λ ranked. subst (Ranked (sooner g.Rank.Ranking.first)) (sym c.withdraw.ensures.list) (ranked_without_first (sooner g.Rank.Ranking.first) (with_serial c.args.serial) (held c.args.self.now.places) ranked);
+      ranked = λ ranked. subst (Ranked (sooner g.S.Rank.Ranking.first)) (sym c.withdraw.ensures.list) (ranked_without_first (sooner g.S.Rank.Ranking.first) (with_serial c.args.serial) (held c.args.self.now.places) ranked);
     }
