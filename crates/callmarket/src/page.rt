@@ -3,11 +3,10 @@ ghost use Rattle.std.specs.Prelude.{◌≡◌, [], ◌∷◌, ◌++◌, IfOk, st
 ghost use Rattle.callmarket.specs.Lines.{line_text, page};
 
 use crate::line::Line;
-use std::alloc::Global;
-use std::fmt;
+use std::alloc::{AllocError, Global};
 
 /// The lines as they are printed, one below the other.
-pub fn print_page(heap: Global, lines: &[Line]) -> Result<String, fmt::Error>
+pub fn print_page(heap: Global, lines: &[Line]) -> Result<String, AllocError>
     ensures { IfOk result (λ text. string_bytes text ≡ page lines.now) }
 {
     let mut text = String::new(heap);
@@ -18,7 +17,7 @@ pub fn print_page(heap: Global, lines: &[Line]) -> Result<String, fmt::Error>
 }
 
 // Adds a line and its end.
-fn add_line(text: &mut String, line: Line) -> fmt::Result
+fn add_line(text: &mut String, line: Line) -> Result<(), AllocError>
     ensures { OnOk result (string_bytes text.new ≡ string_bytes text.old ++ (line_text line ++ (10 ∷ []))) }
 {
     writeln!(text, "{line}")
