@@ -1,5 +1,6 @@
 // The kinds of book that are timed.
 use crate::timing::{Runs, time_runs};
+use anyhow::anyhow;
 use books::pile::Pile;
 use books::shelf::Shelf;
 use figures::order::Order;
@@ -17,7 +18,7 @@ pub(crate) fn run_shelf<S: Side + Drop>(
 ) -> anyhow::Result<Runs> {
     match Shelf::new(side, places) {
         Ok(mut shelf) => Ok(time_runs(clock, &mut shelf, count)?),
-        Err(_) => Err(NO_BOOK.into()),
+        Err(_) => Err(anyhow!(NO_BOOK)),
     }
 }
 
@@ -30,6 +31,6 @@ pub(crate) fn run_pile<S: Side + Drop>(
 ) -> anyhow::Result<Runs> {
     match Pile::new(side, places) {
         Ok(mut pile) => Ok(time_runs(clock, &mut pile, count)?),
-        Err(_) => Err(NO_BOOK.into()),
+        Err(_) => Err(anyhow!(NO_BOOK)),
     }
 }
