@@ -2,7 +2,7 @@
 use Rattle.std.proofs.Common.{◌≡◌, ℕ, ◌+◌, ◌-◌, ◌*◌, ◌/◌, ◌<◌, ◌≤◌, List, [], ◌∷◌, ◌++◌, length, drop, Some, Ok, Err, Result, sym, refl, ap, ◌∙◌, subst, append_assoc, append-nil, add-zero, add_assoc, arith, length-append, length-drop, drop-drop}
 use mathlib.Core.List.{map-append}
 use lib.Seq.{drop-append_seam}
-use Rattle.std.specs.List.{AllByRecursion as All}
+use Rattle.std.specs.List.{AllByRecursion}
 use Rattle.std.proofs.ByRecursion.{All-push}
 use Rattle.figures.specs.declared.refusal.Refusal.{Refusal}
 use Rattle.batch.specs.declared.reader.Reader.{Reader}
@@ -25,7 +25,7 @@ pub record Sofar (batch : List ℕ) (entries : List Entry) (reader : Reader) : T
   pub same : reader.batch.now ≡ batch
   pub bytes : layouts (asked entries) ++ ahead reader ≡ batch
   pub reached : length (layouts (asked entries)) ≡ reader.place
-  pub fitting : All Fitting (asked entries)
+  pub fitting : AllByRecursion Fitting (asked entries)
   pub placed : Placed 0 entries
   pub few : 7 * length entries ≤ reader.place
 
@@ -75,7 +75,7 @@ module _ {batch : List ℕ} {es : List Entry} {reader : Reader} (s : Sofar batch
         same = same ∙ s.same;
         bytes = (λ i. all i ++ left i) ∙ append_assoc (layouts (asked es)) front tail ∙ ap (λ l. layouts (asked es) ++ l) split.1.1 ∙ s.bytes;
         reached = ap length all ∙ length-append (layouts (asked es)) front ∙ ap (λ n. n + length front) s.reached ∙ sym steps;
-        fitting = subst (All Fitting) (sym asks) (All-push Fitting (asked es) q s.fitting fits);
+        fitting = subst (AllByRecursion Fitting) (sym asks) (All-push Fitting (asked es) q s.fitting fits);
         placed = placed_push 0 es e s.placed (split.0 ∙ omega (arith, s.reached));
         few = simp length-append (omega (arith, s.few, seven q, steps));
       })

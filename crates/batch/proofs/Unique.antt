@@ -5,7 +5,7 @@ use native.Mathlib.Nat.{div-div-eq-div-mul}
 use Rattle.batch.specs.declared.request.Request.{Request}
 use Rattle.batch.specs.declared.request.Request.TheVariants.{Bid, Ask, MarketBid, MarketAsk, Withdrawal}
 use Rattle.batch.specs.declared.request.Terms.{Terms}
-use Rattle.std.specs.List.{AllByRecursion as All}
+use Rattle.std.specs.List.{AllByRecursion}
 use Rattle.batch.specs.Layout.{word, signed_word, terms_layout, layout, layouts, Fitting}
 use Rattle.batch.specs.Standing.{a_record, standing}
 use Rattle.batch.proofs.Front.{marked}
@@ -75,7 +75,7 @@ pub record Behind (ps qs : List Request) (rest : List ℕ) : Type 0 where
   pub split : qs ≡ ps ++ left
   pub bytes : rest ≡ layouts left
 
-pub behind : (ps qs : List Request) (rest : List ℕ) → All Fitting ps → All Fitting qs → layouts ps ++ rest ≡ layouts qs → Behind ps qs rest
+pub behind : (ps qs : List Request) (rest : List ℕ) → AllByRecursion Fitting ps → AllByRecursion Fitting qs → layouts ps ++ rest ≡ layouts qs → Behind ps qs rest
 behind [] qs rest fp fq e = record { left = qs; split = refl; bytes = e }
 behind (p ∷ ps) [] rest fp fq e = absurd (some_bytes p (layouts ps ++ rest) (sym (append_assoc (layout p) (layouts ps) rest) ∙ e))
 behind (p ∷ ps) (q ∷ qs) rest fp fq e =

@@ -46,7 +46,7 @@ standing place (a ∷ b ∷ rest) = behind_mark (field_bytes a b) place a b rest
 -- how far the reader moves on over it
 abbrev pub step : Standing → ℕ
 step end = 0
-step (a_record place record-bytes) = length record-bytes
+step (a_record place record_bytes) = length record_bytes
 step (unreadable refusal) = 0
 
 -- what an answer of the reader tells

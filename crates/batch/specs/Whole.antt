@@ -1,6 +1,6 @@
 -- What it means that a batch was read: a relation between its bytes, the entries and the layout of a request. Assumes nothing.
 use Rattle.std.specs.Prelude.{◌≡◌, ℕ, ◌+◌, List, [], ◌∷◌, ◌++◌, map, length, Ok, Err, Result, ◌≢◌}
-use Rattle.std.specs.List.{AllByRecursion as All}
+use Rattle.std.specs.List.{AllByRecursion}
 use Rattle.figures.specs.declared.refusal.Refusal.{Refusal}
 use Rattle.batch.specs.declared.request.Entry.{Entry}
 use Rattle.batch.specs.declared.request.Request.{Request}
@@ -11,7 +11,7 @@ use Rattle.batch.specs.Standing.{standing, unreadable}
 
 -- the batch is the records of these requests, one after another
 pub record Holds (batch : List ℕ) (requests : List Request) : Type 0 where
-  pub fitting : All Fitting requests
+  pub fitting : AllByRecursion Fitting requests
   pub bytes : layouts requests ≡ batch
 
 -- the requests of the entries
@@ -32,7 +32,7 @@ pub record ReadToEnd (batch : List ℕ) (entries : List Entry) : Type 0 where
 -- the batch begins with the records of the entries, and rest stands behind them
 pub record Front (batch : List ℕ) (entries : List Entry) (rest : List ℕ) : Type 0 where
   pub bytes : layouts (asked entries) ++ rest ≡ batch
-  pub fitting : All Fitting (asked entries)
+  pub fitting : AllByRecursion Fitting (asked entries)
   pub placed : Placed 0 entries
 
 -- behind the records of the entries there is a place at which no record begins, so that the batch is not the records of any requests; the refusal is that of this place
