@@ -1,7 +1,6 @@
 -- The bytes of a batch: what each request is written as. Assumes nothing.
 use Rattle.std.specs.Prelude.{ℕ, ◌/◌, ◌%◌, ◌^◌, ◌<◌, List, [], ◌∷◌, ◌++◌, take, drop, ℤ, FitsSigned}
-use Rattle.std.specs.Int.{w32}
-use Rattle.std.proofs.Common.{of_z}
+use Rattle.std.specs.Int.{w32, cast_unsigned}
 use Rattle.batch.specs.declared.request.Terms.{Terms}
 use Rattle.batch.specs.declared.request.Request.{Request}
 use Rattle.batch.specs.declared.request.Request.TheVariants.{Bid, Ask, MarketBid, MarketAsk, Withdrawal}
@@ -13,7 +12,7 @@ word n = n / 16777216 ∷ n / 65536 % 256 ∷ n / 256 % 256 ∷ n % 256 ∷ []
 
 -- the same of a signed number, in two's complement
 abbrev pub signed_word : ℤ → List ℕ
-signed_word z = word (of_z w32 z)
+signed_word z = word (cast_unsigned w32 z)
 
 -- the fields that every order has
 abbrev pub terms_layout : Terms → List ℕ
