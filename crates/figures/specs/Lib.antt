@@ -1,3 +1,4 @@
 pub mod Bounds
 pub mod Orders
 pub mod Refusals
+pub mod Texts

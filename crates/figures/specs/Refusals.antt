@@ -1,7 +1,9 @@
--- What a refusal tells a member: its number and its figure, case by case. Assumes nothing.
+-- What a refusal is, and what it tells a member: its number and its figure, case by case. Assumes nothing.
 use Rattle.std.specs.Prelude.{ℕ, ℤ, pos}
+use Rattle.figures.specs.declared.refusal.Part.{Part}
 use Rattle.figures.specs.declared.refusal.Reason.{Reason}
 use Rattle.figures.specs.declared.refusal.Reason.TheVariants.{MemberUnknown, HourNotOpen, EnergyOutOfRange, LimitOutOfRange, SerialsUsedUp, BookFull, SerialStands, NoSuchOrder, NoRoomForTrades, LastHour, ScheduleTooShort, DepthTooShort, OpeningTooLate, SerialOutOfRange, UnknownMark, CutShort, CutTooLarge, AskAboveBid, TradeOutOfRange, JournalFull, PlacesOutOfRange}
+use Rattle.figures.specs.declared.refusal.Refusal.{Refusal}
 
 pub record Notice : Type 0 where
   pub number : ℕ
@@ -29,3 +31,7 @@ notice (AskAboveBid ask) = record { number = 18; figure = ask }
 notice (TradeOutOfRange written) = record { number = 19; figure = pos written }
 notice (JournalFull capacity) = record { number = 20; figure = pos capacity }
 notice (PlacesOutOfRange places) = record { number = 21; figure = pos places }
+
+-- the refusal that a part gives for a reason
+abbrev pub refused_by : Part → Reason → Refusal
+refused_by part reason = record { part = part; reason = reason }

@@ -2,7 +2,7 @@
 ghost use Rattle.std.specs.Prelude.{◌≡◌};
 ghost use Rattle.figures.specs.Bounds.{checked_member, checked_hour, checked_energy, checked_limit, checked_serial};
 
-use crate::refusal::Reason;
+use crate::refusal::{Reason, refuse_unless};
 
 pub const LAST_MEMBER: u8 = 31;
 
@@ -22,48 +22,42 @@ pub const MOST_PLACES: usize = 4_096;
 pub fn check_member(member: u8) -> Result<(), Reason>
     ensures { result ≡ checked_member member }
 {
-    if member > LAST_MEMBER {
-        return Err(Reason::MemberUnknown { member });
-    }
-    Ok(())
+    refuse_unless(member <= LAST_MEMBER, Reason::MemberUnknown { member })
 }
 
 /// Refuses an hour that can never be open.
 pub fn check_hour(hour: u32) -> Result<(), Reason>
     ensures { result ≡ checked_hour hour }
 {
-    if hour > LAST_DELIVERY_HOUR {
-        return Err(Reason::HourNotOpen { hour });
-    }
-    Ok(())
+    refuse_unless(hour <= LAST_DELIVERY_HOUR, Reason::HourNotOpen { hour })
 }
 
 /// Refuses an energy that no order may have.
 pub fn check_energy(energy: u32) -> Result<(), Reason>
     ensures { result ≡ checked_energy energy }
 {
-    if energy == 0 || energy > MOST_ENERGY {
-        return Err(Reason::EnergyOutOfRange { energy });
-    }
-    Ok(())
+    refuse_unless(
+        (1..=MOST_ENERGY).contains(&energy),
+        Reason::EnergyOutOfRange { energy },
+    )
 }
 
 /// Refuses a price outside the price range.
 pub fn check_limit(limit: i32) -> Result<(), Reason>
     ensures { result ≡ checked_limit limit }
 {
-    if limit < LOWEST_LIMIT || limit > HIGHEST_LIMIT {
-        return Err(Reason::LimitOutOfRange { limit });
-    }
-    Ok(())
+    refuse_unless(
+        (LOWEST_LIMIT..=HIGHEST_LIMIT).contains(&limit),
+        Reason::LimitOutOfRange { limit },
+    )
 }
 
 /// Refuses a serial that is never issued.
 pub fn check_serial(serial: u32) -> Result<(), Reason>
     ensures { result ≡ checked_serial serial }
 {
-    if serial == 0 || serial > LAST_SERIAL {
-        return Err(Reason::SerialOutOfRange { serial });
-    }
-    Ok(())
+    refuse_unless(
+        (1..=LAST_SERIAL).contains(&serial),
+        Reason::SerialOutOfRange { serial },
+    )
 }

@@ -1,9 +1,11 @@
 // An order, and the figures that bound it.
-ghost use Rattle.std.specs.Prelude.{◌≡◌, Ok};
+ghost use Rattle.std.specs.Prelude.{◌≡◌, Ok, Some};
 ghost use Rattle.figures.specs.Orders.{checked_before};
+ghost use Rattle.figures.specs.Texts.{order_text};
 
 use crate::bounds::{check_energy, check_hour, check_limit, check_member, check_serial};
 use crate::refusal::Reason;
+use std::fmt;
 
 /// A member's standing offer to buy or to sell energy in one delivery hour.
 #[derive(Clone, Copy, Debug, PartialEq, Eq)]
@@ -27,5 +29,23 @@ impl Order {
         check_energy(self.energy)?;
         check_limit(self.limit)?;
         check_serial(self.serial)
+    }
+}
+
+impl fmt::Display for Order {
+    ghost output = { λ order. Some (order_text order) };
+
+    fn fmt<W: fmt::Write>(&self, f: &mut fmt::Formatter<W>) -> fmt::Result {
+        let Order {
+            hour,
+            serial,
+            member,
+            energy,
+            limit,
+        } = self;
+        write!(
+            f,
+            "hour {hour} serial {serial} member {member} energy {energy} limit {limit}"
+        )
     }
 }

@@ -1,6 +1,10 @@
 // Why a call turned something down, and which part of the exchange did.
-ghost use Rattle.std.specs.Prelude.{◌≡◌};
-ghost use Rattle.figures.specs.Refusals.{notice};
+ghost use Rattle.std.specs.Prelude.{◌≡◌, not, Ok, Some};
+ghost use Rattle.figures.specs.Bounds.{refuse_if};
+ghost use Rattle.figures.specs.Refusals.{notice, refused_by};
+ghost use Rattle.figures.specs.Texts.{refusal_text};
+
+use std::fmt;
 
 /// A part of the exchange that can refuse.
 #[derive(Clone, Copy, Debug, PartialEq, Eq)]
@@ -70,7 +74,7 @@ impl Reason {
         }
     }
 
-    /// The figure that goes with the number.
+    /// The figure that goes with the number. A length has no `From` into an `i128`; the cast loses nothing.
     pub fn figure(self) -> i128
         ensures { result ≡ (notice self).figure }
     {
@@ -98,6 +102,20 @@ impl Reason {
             Reason::PlacesOutOfRange { places } => places as i128,
         }
     }
+
+    /// The refusal for this reason that a part gives.
+    pub fn refused_by(self, part: Part) -> Refusal
+        ensures { result ≡ refused_by part self }
+    {
+        Refusal { part, reason: self }
+    }
+}
+
+/// Refuses for a reason, unless something holds.
+pub fn refuse_unless(holds: bool, reason: Reason) -> Result<(), Reason>
+    ensures { result ≡ refuse_if (not holds) reason (Ok tt) }
+{
+    holds.then_some(()).ok_or(reason)
 }
 
 /// A refusal: the part that gave it, and its reason.
@@ -105,4 +123,17 @@ impl Reason {
 pub struct Refusal {
     pub part: Part,
     pub reason: Reason,
+}
+
+impl fmt::Display for Refusal {
+    ghost output = { λ refusal. Some (refusal_text refusal) };
+
+    fn fmt<W: fmt::Write>(&self, f: &mut fmt::Formatter<W>) -> fmt::Result {
+        write!(
+            f,
+            "refused {} with figure {}",
+            self.reason.number(),
+            self.reason.figure()
+        )
+    }
 }
