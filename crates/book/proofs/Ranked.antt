@@ -1,10 +1,11 @@
 -- The listed order is kept by every change.
 use Rattle.std.proofs.Common.{◌≡◌, ℕ, Bool, true, false, eqb, List, [], ◌∷◌, filter, refl, ◌∙◌, arith}
+use Rattle.std.specs.List.{list_all}
 use Rattle.std.proofs.lemmas.Bool.{cond_both, eqb-false, or_parts}
 use Rattle.std.proofs.lemmas.Bool.Decides.{nat_tests}
 use Rattle.figures.specs.declared.order.Order.{Order}
 use Rattle.sides.specs.Ranking.{Direction, Lawful, Ranks}
-use Rattle.sides.specs.Listing.{Ranked, each, ranked_in, sooner, stands}
+use Rattle.sides.specs.Listing.{Ranked, ranked_in, sooner, stands}
 use Rattle.book.specs.Kept.{each_ranked_in}
 use Rattle.book.specs.Lists.{without_first, lessened, lessened_first}
 use Rattle.book.proofs.Sound.{each_without_first, each_filter}
@@ -26,7 +27,7 @@ sooner_laws law =
     }
 
 -- what comes before the first comes before all that it comes before
-pub each_before : (before : Order → Order → Bool) → ListingLaws before → (x y : Order) (ys : List Order) → before x y ≡ true → each (before y) ys ≡ true → each (before x) ys ≡ true
+pub each_before : (before : Order → Order → Bool) → ListingLaws before → (x y : Order) (ys : List Order) → before x y ≡ true → list_all (before y) ys ≡ true → list_all (before x) ys ≡ true
 each_before before laws x y [] e h = refl
 each_before before laws x y (z ∷ zs) e h =
     let k = each_before before laws x y zs e in
@@ -39,11 +40,11 @@ ranked_put before laws x (y ∷ ys) s r =
     let p = or_parts (eqb y.serial x.serial) (stands x.serial ys) s in
     cond_both (before y x) (y ∷ ranked_in before x ys) (x ∷ y ∷ ys) (Ranked before)
     (λ e. let k = each_ranked_in (before y) before x ys in
-    let front : each (before y) (ranked_in before x ys) ≡ true = grind (arith, nat_tests) in
+    let front : list_all (before y) (ranked_in before x ys) ≡ true = grind (arith, nat_tests) in
     (front, ranked_put before laws x ys p.1 r.1))
     (λ e. let f = laws.total y x (eqb-false y.serial x.serial p.0) e in
     let k = each_before before laws x y ys f r.0 in
-    let front : each (before x) (y ∷ ys) ≡ true = grind (arith, nat_tests) in
+    let front : list_all (before x) (y ∷ ys) ≡ true = grind (arith, nat_tests) in
     (front, r))
 
 pub ranked_without_first : (before : Order → Order → Bool) (test : Order → Bool) (xs : List Order) → Ranked before xs → Ranked before (without_first test xs)
@@ -52,11 +53,11 @@ ranked_without_first before test (x ∷ xs) r =
     cond_both (test x) xs (x ∷ without_first test xs) (Ranked before) (λ e. r.1)
     (λ e. (each_without_first (before x) test xs r.0, ranked_without_first before test xs r.1))
 
-pub each_sooner_lessened : (first : Ranks) (y : Order) (test : Order → Bool) (energy : ℕ) (xs : List Order) → each (sooner first y) (lessened_first test energy xs) ≡ each (sooner first y) xs
+pub each_sooner_lessened : (first : Ranks) (y : Order) (test : Order → Bool) (energy : ℕ) (xs : List Order) → list_all (sooner first y) (lessened_first test energy xs) ≡ list_all (sooner first y) xs
 each_sooner_lessened first y test energy [] = refl
 each_sooner_lessened first y test energy (x ∷ xs) =
     let k = each_sooner_lessened first y test energy xs in
-    cond_both (test x) (lessened energy x ∷ xs) (x ∷ lessened_first test energy xs) (λ l. each (sooner first y) l ≡ each (sooner first y) (x ∷ xs)) (λ e. refl) (λ e. rw k)
+    cond_both (test x) (lessened energy x ∷ xs) (x ∷ lessened_first test energy xs) (λ l. list_all (sooner first y) l ≡ list_all (sooner first y) (x ∷ xs)) (λ e. refl) (λ e. rw k)
 
 pub ranked_lessened_first : (first : Ranks) (test : Order → Bool) (energy : ℕ) (xs : List Order) → Ranked (sooner first) xs → Ranked (sooner first) (lessened_first test energy xs)
 ranked_lessened_first first test energy [] r = tt

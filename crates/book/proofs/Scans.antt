@@ -1,12 +1,12 @@
 -- Loops over a slice of orders that look for the first that passes a test, or sum up over all that do.
 use Rattle.std.proofs.Common.{◌≡◌, ℕ, ◌+◌, ◌*◌, ◌<◌, ◌≤◌, Bool, true, false, not, List, [], ◌∷◌, ◌++◌, length, get_or, take, drop, Some, None, filter, sym, ap, ◌∙◌, add-mul, arith}
-use Rattle.std.specs.List.{prefix_len}
+use Rattle.std.specs.List.{prefix_len, position}
 use Rattle.std.proofs.lemmas.List.Elements.{filter_more}
 use Rattle.std.proofs.lemmas.List.{append-nil, take_all, length_push}
 use Rattle.std.proofs.lemmas.List.Sums.{prefix_len-drop_yes, prefix_len-drop_no, prefix_len-drop_all}
 use Rattle.std.proofs.lemmas.Bool.{not_from_true, not_from_false, cond-true, cond-false, lt-ltb, le-ltb}
 use Rattle.figures.specs.declared.order.Order.{Order}
-use Rattle.book.specs.Lists.{place_of, total_energy}
+use Rattle.book.specs.Lists.{total_energy}
 
 -- none of the first i orders passes
 abbrev pub PassedOver : (Order → Bool) → List Order → ℕ → Type 0
@@ -16,14 +16,14 @@ pub passed_over_more : (test : Order → Bool) (xs : List Order) (i : ℕ) (d : 
 passed_over_more test xs i d h l e =
     let one = prefix_len-drop_yes (λ x. not (test x)) xs i d l (not_from_false _ e) in omega arith
 
-pub found_here : (test : Order → Bool) (xs : List Order) (i : ℕ) (d : Order) → PassedOver test xs i → i < length xs → test (get_or xs i d) ≡ true → Some i ≡ place_of test xs
+pub found_here : (test : Order → Bool) (xs : List Order) (i : ℕ) (d : Order) → PassedOver test xs i → i < length xs → test (get_or xs i d) ≡ true → Some i ≡ position test xs
 found_here test xs i d h l e =
     let none = prefix_len-drop_no (λ x. not (test x)) xs i d l (not_from_true _ e) in
     let is : i ≡ prefix_len (λ x. not (test x)) xs = omega arith in
     let within : prefix_len (λ x. not (test x)) xs < length xs = omega arith in
     ap Some is ∙ sym (cond-true _ _ _ (lt-ltb _ _ within))
 
-pub found_nowhere : (test : Order → Bool) (xs : List Order) (i : ℕ) → PassedOver test xs i → length xs ≤ i → None ≡ place_of test xs
+pub found_nowhere : (test : Order → Bool) (xs : List Order) (i : ℕ) → PassedOver test xs i → length xs ≤ i → None ≡ position test xs
 found_nowhere test xs i h l =
     let none = prefix_len-drop_all (λ x. not (test x)) xs i l in
     let past : length xs ≤ prefix_len (λ x. not (test x)) xs = omega arith in

@@ -1,18 +1,18 @@
 -- Figures, serials and room are kept by every change.
 use Rattle.std.proofs.Common.{◌≡◌, ℕ, zero, suc, ◌*◌, ◌<◌, ◌≤◌, Bool, true, false, not, ◌&&◌, ◌||◌, eqb, List, [], ◌∷◌, length, get_or, set, Ok, filter, refl, ap, ◌∙◌, arith}
-use Rattle.std.specs.List.{remove}
+use Rattle.std.specs.List.{remove, list_all}
 use Rattle.std.proofs.lemmas.Bool.{and_parts}
 use Rattle.std.proofs.lemmas.Bool.Decides.{nat_tests}
 use Rattle.figures.specs.Orders.{within_figures, checked_before}
 use Rattle.figures.specs.declared.order.Order.{Order}
-use Rattle.sides.specs.Listing.{apart, each, stands}
+use Rattle.sides.specs.Listing.{apart, stands}
 use Rattle.book.specs.Lists.{without_first, lessened, total_energy}
 
-pub each_without_first : (p test : Order → Bool) (xs : List Order) → each p xs ≡ true → each p (without_first test xs) ≡ true
+pub each_without_first : (p test : Order → Bool) (xs : List Order) → list_all p xs ≡ true → list_all p (without_first test xs) ≡ true
 each_without_first p test [] h = refl
 each_without_first p test (x ∷ xs) h = let k = each_without_first p test xs in grind (arith, nat_tests)
 
-pub each_filter : (p test : Order → Bool) (xs : List Order) → each p xs ≡ true → each p (filter test xs) ≡ true
+pub each_filter : (p test : Order → Bool) (xs : List Order) → list_all p xs ≡ true → list_all p (filter test xs) ≡ true
 each_filter p test [] h = refl
 each_filter p test (x ∷ xs) h = let k = each_filter p test xs in grind (arith, nat_tests)
 
@@ -29,7 +29,7 @@ apart_filter test (x ∷ xs) h =
     grind (arith, nat_tests)
 
 -- an order is removed from a place
-pub each_removed : (p : Order → Bool) (xs : List Order) (at : ℕ) → each p xs ≡ true → each p (remove xs at) ≡ true
+pub each_removed : (p : Order → Bool) (xs : List Order) (at : ℕ) → list_all p xs ≡ true → list_all p (remove xs at) ≡ true
 each_removed p [] zero h = refl
 each_removed p [] (suc at) h = refl
 each_removed p (x ∷ xs) zero h = grind (arith, nat_tests)
@@ -51,7 +51,7 @@ apart_removed (x ∷ xs) (suc at) h =
     grind (arith, nat_tests)
 
 -- an order is changed at its place
-pub each_set : (p : Order → Bool) (xs : List Order) (at : ℕ) (y : Order) → p y ≡ true → each p xs ≡ true → each p (set xs at y) ≡ true
+pub each_set : (p : Order → Bool) (xs : List Order) (at : ℕ) (y : Order) → p y ≡ true → list_all p xs ≡ true → list_all p (set xs at y) ≡ true
 each_set p [] at y q h = refl
 each_set p (x ∷ xs) zero y q h = grind (arith, nat_tests)
 each_set p (x ∷ xs) (suc at) y q h = let k = each_set p xs at y q in grind (arith, nat_tests)
@@ -73,14 +73,14 @@ apart_set (x ∷ xs) (suc at) y d e =
 pub figures_lessened : (energy : ℕ) (x : Order) → energy < x.energy → within_figures x ≡ true → within_figures (lessened energy x) ≡ true
 figures_lessened energy x l h = grind (arith, nat_tests)
 
-pub each_get_or : (p : Order → Bool) (xs : List Order) (at : ℕ) (d : Order) → at < length xs → each p xs ≡ true → p (get_or xs at d) ≡ true
+pub each_get_or : (p : Order → Bool) (xs : List Order) (at : ℕ) (d : Order) → at < length xs → list_all p xs ≡ true → p (get_or xs at d) ≡ true
 each_get_or p [] at d l h = absurd (omega arith)
 each_get_or p (x ∷ xs) zero d l h = grind (arith, nat_tests)
 each_get_or p (x ∷ xs) (suc at) d l h =
-    each_get_or p xs at d (omega arith) (and_parts (p x) (each p xs) h).1
+    each_get_or p xs at d (omega arith) (and_parts (p x) (list_all p xs) h).1
 
 -- the energy of orders within the figures
-pub most_energy : (xs : List Order) → each within_figures xs ≡ true → total_energy xs ≤ length xs * 1000000
+pub most_energy : (xs : List Order) → list_all within_figures xs ≡ true → total_energy xs ≤ length xs * 1000000
 most_energy [] h = omega arith
 most_energy (x ∷ xs) h =
     let k = most_energy xs in

@@ -1,9 +1,10 @@
 -- What putting an order in by rank keeps. What is proved here, nobody has to believe.
 use Rattle.std.specs.Prelude.{◌≡◌, ℕ, zero, suc, ◌+◌, Bool, true, false, cond, not, ◌&&◌, ◌||◌, List, [], ◌∷◌, length, ◌==◌, refl}
+use Rattle.std.specs.List.{list_all}
 use Rattle.std.proofs.Common.{sym, ap, ◌∙◌, add-one}
 use Rattle.std.proofs.Math.Dec.{eqb-zero-suc, eqb-suc-zero, eqb-suc-suc}
 use Rattle.figures.specs.declared.order.Order.{Order}
-use Rattle.sides.specs.Listing.{apart, each, ranked_in, stands}
+use Rattle.sides.specs.Listing.{apart, ranked_in, stands}
 
 and_swap : (a b c : Bool) → (a && (b && c)) ≡ (b && (a && c))
 and_swap true b c = refl
@@ -26,11 +27,11 @@ apart_swap : (e a b c : Bool) → (not (e || a) && (not b && c)) ≡ (not (e || 
 apart_swap true a b c = refl
 apart_swap false a b c = and_swap (not a) (not b) c
 
-pub each_ranked_in : (test : Order → Bool) (before : Order → Order → Bool) (x : Order) (xs : List Order) → each test (ranked_in before x xs) ≡ (test x && each test xs)
+pub each_ranked_in : (test : Order → Bool) (before : Order → Order → Bool) (x : Order) (xs : List Order) → list_all test (ranked_in before x xs) ≡ (test x && list_all test xs)
 each_ranked_in test before x [] = refl
 each_ranked_in test before x (y ∷ ys) =
-    elim (before y x) as (λ b. each test (cond b (y ∷ ranked_in before x ys) (x ∷ y ∷ ys)) ≡ (test x && each test (y ∷ ys))) [
-      | true ↦ ap (λ b. test y && b) (each_ranked_in test before x ys) ∙ and_swap (test y) (test x) (each test ys)
+    elim (before y x) as (λ b. list_all test (cond b (y ∷ ranked_in before x ys) (x ∷ y ∷ ys)) ≡ (test x && list_all test (y ∷ ys))) [
+      | true ↦ ap (λ b. test y && b) (each_ranked_in test before x ys) ∙ and_swap (test y) (test x) (list_all test ys)
       | false ↦ refl
     ]
 

@@ -9,15 +9,6 @@ of_hour hour x = x.hour == hour
 abbrev pub with_serial : ℕ → Order → Bool
 with_serial serial x = x.serial == serial
 
--- the first order that passes the test
-abbrev pub first_that : (Order → Bool) → List Order → Option Order
-first_that test [] = None
-first_that test (x ∷ xs) = cond (test x) (Some x) (first_that test xs)
-
--- the place of the first order that passes the test
-abbrev pub place_of : (Order → Bool) → List Order → Option ℕ
-place_of test xs = let place = prefix_len (λ x. not (test x)) xs in cond (nat_lt place (length xs)) (Some place) None
-
 -- the first `count` orders without the one at a place, where one stands: those behind it come one place nearer, and the
 -- last of them stays where it was too. Later places stay
 abbrev pub closed_up : ℕ → ℕ → List Order → List Order

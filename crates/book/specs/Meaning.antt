@@ -1,5 +1,6 @@
 -- What a book means, a capacity and a list of resting orders, and what each call gives.
 use Rattle.std.specs.Prelude.{◌≡◌, ℕ, ◌≤◌, true, cond, not, ◌||◌, List, length, Some, None, Ok, Err, filter, Option, Result, ◌==◌, nat_lt}
+use Rattle.std.specs.List.{list_all, find}
 use Rattle.figures.specs.Bounds.{refuse_if}
 use Rattle.figures.specs.Orders.{checked_before, within_figures}
 use Rattle.figures.specs.declared.order.Order.{Order}
@@ -7,15 +8,15 @@ use Rattle.figures.specs.declared.refusal.Part.TheVariants.{Book}
 use Rattle.figures.specs.declared.refusal.Reason.{Reason}
 use Rattle.figures.specs.declared.refusal.Reason.TheVariants.{CutTooLarge, PlacesOutOfRange}
 use Rattle.figures.specs.declared.refusal.Refusal.{Refusal}
-use Rattle.sides.specs.Listing.{apart, each, room_for}
-use Rattle.book.specs.Lists.{of_hour, first_that, without_first, lessened_first}
+use Rattle.sides.specs.Listing.{apart, room_for}
+use Rattle.book.specs.Lists.{of_hour, without_first, lessened_first}
 
 -- what holds of the capacity and the list of every book
 pub record Sound (capacity : ℕ) (xs : List Order) : Type 0 where
   pub some_place : 1 ≤ capacity
   pub few_places : capacity ≤ 4096
   pub room : length xs ≤ capacity
-  pub figures : each within_figures xs ≡ true
+  pub figures : list_all within_figures xs ≡ true
   pub serials : apart xs ≡ true
 
 -- a refusal that the book gives
@@ -38,7 +39,7 @@ put_answer capacity xs order = by_book (checked_before order (room_for capacity 
 
 -- an hour's best order
 abbrev pub best : ℕ → List Order → Option Order
-best hour xs = first_that (of_hour hour) xs
+best hour xs = find (of_hour hour) xs
 
 abbrev pub energy_in : Option Order → ℕ
 energy_in None = 0

@@ -1,9 +1,9 @@
 // A book of resting orders.
 ghost use Rattle.std.specs.Prelude.{◌≡◌, ℕ, List, length, filter};
-ghost use Rattle.std.specs.List.{slice_get};
+ghost use Rattle.std.specs.List.{slice_get, find};
 ghost use Rattle.figures.specs.declared.order.Order.{Order};
 ghost use Rattle.sides.specs.Listing.{StaysRanked, sooner, ranked_in, accepted, Untouched};
-ghost use Rattle.book.specs.Lists.{of_hour, with_serial, first_that, without_first, total_energy};
+ghost use Rattle.book.specs.Lists.{of_hour, with_serial, without_first, total_energy};
 ghost use Rattle.book.specs.Meaning.{Sound, put_answer, best, cut_answer, cut_list, other_hours};
 
 use figures::order::Order;
@@ -51,7 +51,7 @@ pub trait Book<S: Side> {
 
     /// The order with `serial`.
     fn find(&self, serial: u32) -> Option<Order>
-        ensures { result ≡ first_that (with_serial serial) (list self.now) };
+        ensures { result ≡ find (with_serial serial) (list self.now) };
 
     /// Takes `energy` off the best order of `hour`, which leaves when nothing of it is left.
     fn cut(&mut self, hour: u32, energy: u32) -> Result<(), Refusal>
@@ -63,7 +63,7 @@ pub trait Book<S: Side> {
 
     /// Removes the order with `serial`, and answers it.
     fn withdraw(&mut self, serial: u32) -> Option<Order>
-        ensures answer { result ≡ first_that (with_serial serial) (list self.old) }
+        ensures answer { result ≡ find (with_serial serial) (list self.old) }
         ensures list { list self.new ≡ without_first (with_serial serial) (list self.old) }
         ensures capacity { capacity self.new ≡ capacity self.old }
         ensures ranked { StaysRanked (sooner S.Rank.Ranking.first) (list self.old) (list self.new) };

@@ -1,14 +1,14 @@
 // Orders in a slice, found, counted and removed by a criterion.
 ghost use Rattle.std.specs.Prelude.{◌≡◌, not, ◌++◌, length, take, drop, filter};
-ghost use Rattle.std.specs.List.{slice_get};
-ghost use Rattle.book.specs.Lists.{place_of, first_that, closed_up, total_energy};
+ghost use Rattle.std.specs.List.{slice_get, position, find};
+ghost use Rattle.book.specs.Lists.{closed_up, total_energy};
 
 use crate::criterion::Criterion;
 use figures::order::Order;
 
 /// The place of the first order that passes. One pass, up to it.
 pub fn place_of<C: Criterion>(orders: &[Order], criterion: &C) -> Option<usize>
-    ensures { result ≡ place_of (C.Criterion.passes criterion.now) orders.now }
+    ensures { result ≡ position (C.Criterion.passes criterion.now) orders.now }
 {
     for (i, order) in orders.iter().enumerate() {
         if criterion.passed_by(order) {
@@ -20,7 +20,7 @@ pub fn place_of<C: Criterion>(orders: &[Order], criterion: &C) -> Option<usize>
 
 /// The first order that passes. One pass, up to it.
 pub fn first<C: Criterion>(orders: &[Order], criterion: &C) -> Option<Order>
-    ensures { result ≡ first_that (C.Criterion.passes criterion.now) orders.now }
+    ensures { result ≡ find (C.Criterion.passes criterion.now) orders.now }
 {
     match place_of(orders, criterion) {
         Some(at) => Some(orders[at]),

@@ -22,10 +22,10 @@ running_more before orders capacity xs now ys count i d later zs one run l cap i
     let list : zs ≡ one_put before capacity ys (get_or orders i d) = is ∙ ap (λ n. one_put before n ys (get_or orders i d)) same in
     let step : all_put before capacity ys (drop i orders) ≡ all_put before capacity zs (drop (i + 1) orders) =
     ap (all_put before capacity ys) next ∙ ap (λ ws. all_put before capacity ws (drop (i + 1) orders)) (sym list) in
-    let each : one ≡ accepted (put_answer capacity ys (get_or orders i d)) 1 0 =
+    let list_all : one ≡ accepted (put_answer capacity ys (get_or orders i d)) 1 0 =
     was ∙ ap (λ n. accepted (put_answer n ys (get_or orders i d)) 1 0) same in
     let counts : count_put before capacity ys (drop i orders) ≡ one + count_put before capacity zs (drop (i + 1) orders) =
-    ap (count_put before capacity ys) next ∙ (ap (λ n. n + count_put before capacity (one_put before capacity ys (get_or orders i d)) (drop (i + 1) orders)) (sym each) ∙ ap (λ ws. one + count_put before capacity ws (drop (i + 1) orders)) (sym list)) in
+    ap (count_put before capacity ys) next ∙ (ap (λ n. n + count_put before capacity (one_put before capacity ys (get_or orders i d)) (drop (i + 1) orders)) (sym list_all) ∙ ap (λ ws. one + count_put before capacity ws (drop (i + 1) orders)) (sym list)) in
     let counted = run.counted in
     let bound = run.bound in
     record {

@@ -1,13 +1,12 @@
 -- A pass over a pile that keeps the place of the order that is listed first of those that are sought.
 use Rattle.std.proofs.Common.{◌≡◌, ℕ, ◌+◌, ◌<◌, ◌≤◌, Bool, true, false, cond, not, List, [], ◌∷◌, ◌++◌, length, get_or, take, drop, Some, None, Option, sym, ap, ◌∙◌, subst}
-use Rattle.std.specs.List.{slice_get}
+use Rattle.std.specs.List.{slice_get, find}
 use Rattle.std.proofs.lemmas.List.{take_more, take-append-drop, take_all, append-nil}
 use Rattle.std.proofs.lemmas.Option.{slice_get-get_or}
 use Rattle.std.proofs.lemmas.Bool.{cond-true, cond-false, and_parts}
 use Rattle.figures.specs.declared.order.Order.{Order}
 use Rattle.sides.specs.Listing.{apart, stands}
 use Rattle.figures.specs.Orders.{blank}
-use Rattle.book.specs.Lists.{first_that}
 use Rattle.book.proofs.Ranked.{ListingLaws}
 use Rattle.books.specs.Choosing.{order_in, Within, soonest_of}
 use Rattle.books.specs.Sorting.{sorted}
@@ -42,14 +41,14 @@ apart_front xs (y ∷ ys) h =
 -- among the first i the order at `best` is listed first
 pub record Best (before : Order → Order → Bool) (test : Order → Bool) (xs : List Order) (best : Option ℕ) (i : ℕ) : Type 0 where
   pub within : Within (length xs) best
-  pub first : order_in xs best ≡ first_that test (sorted before (take i xs))
+  pub first : order_in xs best ≡ find test (sorted before (take i xs))
 
-next : (before : Order → Order → Bool) → ListingLaws before → (test : Order → Bool) (xs : List Order) (i : ℕ) → apart xs ≡ true → i < length xs → first_that test (sorted before (take (i + 1) xs)) ≡ cond (test (get_or xs i blank)) (soonest_of before (first_that test (sorted before (take i xs))) (get_or xs i blank)) (first_that test (sorted before (take i xs)))
+next : (before : Order → Order → Bool) → ListingLaws before → (test : Order → Bool) (xs : List Order) (i : ℕ) → apart xs ≡ true → i < length xs → find test (sorted before (take (i + 1) xs)) ≡ cond (test (get_or xs i blank)) (soonest_of before (find test (sorted before (take i xs))) (get_or xs i blank)) (find test (sorted before (take i xs)))
 next before laws test xs i h l =
     let more = take_more xs i blank l in
     let front : apart (take i xs ++ get_or xs i blank ∷ []) ≡ true =
     ap apart (sym more) ∙ apart_front (take (i + 1) xs) (drop (i + 1) xs) (ap apart (take-append-drop (i + 1) xs) ∙ h) in
-    ap (λ ys. first_that test (sorted before ys)) more ∙ first_that_push before laws test (take i xs) (get_or xs i blank) front
+    ap (λ ys. find test (sorted before ys)) more ∙ first_that_push before laws test (take i xs) (get_or xs i blank) front
 
 pub best_more_yes : (before : Order → Order → Bool) → ListingLaws before → (test : Order → Bool) (xs : List Order) (best : Option ℕ) (i place : ℕ) → apart xs ≡ true → Best before test xs best i → i < length xs → test (get_or xs i blank) ≡ true → place < length xs → slice_get xs place ≡ soonest_of before (order_in xs best) (get_or xs i blank) → Best before test xs (Some place) (i + 1)
 best_more_yes before laws test xs best i place h b l t w e =
@@ -62,5 +61,5 @@ pub best_more_no : (before : Order → Order → Bool) → ListingLaws before �
 best_more_no before laws test xs best i h b l t =
     record { within = b.within; first = b.first ∙ (sym (cond-false _ _ _ t) ∙ sym (next before laws test xs i h l)) }
 
-pub best_all : (before : Order → Order → Bool) (test : Order → Bool) (xs : List Order) (best : Option ℕ) (i : ℕ) → Best before test xs best i → length xs ≤ i → order_in xs best ≡ first_that test (sorted before xs)
-best_all before test xs best i b l = b.first ∙ ap (λ ys. first_that test (sorted before ys)) (take_all i xs l)
+pub best_all : (before : Order → Order → Bool) (test : Order → Bool) (xs : List Order) (best : Option ℕ) (i : ℕ) → Best before test xs best i → length xs ≤ i → order_in xs best ≡ find test (sorted before xs)
+best_all before test xs best i b l = b.first ∙ ap (λ ys. find test (sorted before ys)) (take_all i xs l)

@@ -1,6 +1,6 @@
 -- What a change of the places makes of the orders held in them. The places are xs before and ys after.
 use Rattle.std.proofs.Common.{◌≡◌, ℕ, zero, suc, ◌+◌, ◌-◌, ◌^◌, ◌<◌, ◌≤◌, Bool, true, false, cond, not, eqb, ◌⊎◌, List, [], ◌∷◌, ◌++◌, length, get_or, take, drop, set, Some, None, Ok, Err, filter, Option, Result, sym, refl, ap, ◌∙◌, subst, inl, inr, arith}
-use Rattle.std.specs.List.{prefix_len, remove, slice_get}
+use Rattle.std.specs.List.{prefix_len, remove, slice_get, list_all, position, find}
 use Rattle.std.proofs.lemmas.List.Edits.{length-remove}
 use Rattle.std.proofs.lemmas.List.{take_at, take_all, drop_all, length-take, length-take-le, get_or-take, append-nil, length-set}
 use Rattle.std.proofs.lemmas.Option.{slice_get-get_or, slice_get_past}
@@ -12,9 +12,9 @@ use Rattle.figures.specs.declared.order.Order.{Order}
 use Rattle.figures.specs.declared.refusal.Reason.{Reason}
 use Rattle.figures.specs.declared.refusal.Reason.TheVariants.{CutTooLarge}
 use Rattle.sides.specs.Ranking.{Ranks}
-use Rattle.sides.specs.Listing.{apart, each, stands, ranked_in, accepted, room_for, sooner, Ranked, Untouched}
+use Rattle.sides.specs.Listing.{apart, stands, ranked_in, accepted, room_for, sooner, Ranked, Untouched}
 use Rattle.book.specs.Kept.{each_ranked_in, apart_ranked_in, length_ranked_in}
-use Rattle.book.specs.Lists.{place_of, first_that, without_first, lessened_first, closed_up, lessened, of_hour, total_energy}
+use Rattle.book.specs.Lists.{without_first, lessened_first, closed_up, lessened, of_hour, total_energy}
 use Rattle.book.specs.Meaning.{energy_in, taking, by_book, put_answer, best, cut_answer, cut_list}
 use Rattle.book.proofs.Places.{first_that_at, without_first_at, lessened_first_at, place_found}
 use Rattle.book.proofs.Ranked.{ranked_without_first, ranked_lessened_first}
@@ -22,9 +22,9 @@ use Rattle.book.proofs.Sound.{each_filter, each_set, apart_set, figures_lessened
 use Rattle.books.specs.Holding.{Fill, cut_at}
 
 -- as many places as before, in which other orders stand
-pub refilled : (xs ys new : List Order) (count more : ℕ) → Fill (length xs) count (take count xs) → length ys ≡ length xs → more ≤ length ys → take more ys ≡ new → each within_figures new ≡ true → apart new ≡ true → Fill (length ys) more (take more ys)
+pub refilled : (xs ys new : List Order) (count more : ℕ) → Fill (length xs) count (take count xs) → length ys ≡ length xs → more ≤ length ys → take more ys ≡ new → list_all within_figures new ≡ true → apart new ≡ true → Fill (length ys) more (take more ys)
 refilled xs ys new count more fill long room is figures serials =
-    (omega (arith, fill.0), omega (arith, fill.1), room, ap (each within_figures) is ∙ figures, ap apart is ∙ serials)
+    (omega (arith, fill.0), omega (arith, fill.1), room, ap (list_all within_figures) is ∙ figures, ap apart is ∙ serials)
 
 -- what was refused is as it was
 pub as_it_was : {A B E : Type 0} (answer : Result B E) (e : E) (new old : A) → answer ≡ Err e → old ≡ accepted answer new old
@@ -55,7 +55,7 @@ put_in before order xs ys count l e =
     length_ranked_in before order (take count xs) ∙ ap (λ n. n + 1) (length-take-le count xs (omega arith)) in
     ap (take (count + 1)) e ∙ take_at (ranked_in before order (take count xs)) (drop (count + 1) xs) (count + 1) long
 
-pub put_figures : (before : Order → Order → Bool) (order : Order) (xs : List Order) → within_figures order ≡ true → each within_figures xs ≡ true → each within_figures (ranked_in before order xs) ≡ true
+pub put_figures : (before : Order → Order → Bool) (order : Order) (xs : List Order) → within_figures order ≡ true → list_all within_figures xs ≡ true → list_all within_figures (ranked_in before order xs) ≡ true
 put_figures before order xs one all = each_ranked_in within_figures before order xs ∙ and_from _ _ one all
 
 pub put_serials : (before : Order → Order → Bool) (order : Order) (xs : List Order) → stands order.serial xs ≡ false → apart xs ≡ true → apart (ranked_in before order xs) ≡ true
@@ -176,30 +176,30 @@ lapsed_fits hour xs places count fill long =
 
 -- the first order that passes a test, by its place
 
-pub first_taken : (test : Order → Bool) (xs : List Order) (at : ℕ) → Some at ≡ place_of test xs → remove xs at ≡ without_first test xs
+pub first_taken : (test : Order → Bool) (xs : List Order) (at : ℕ) → Some at ≡ position test xs → remove xs at ≡ without_first test xs
 first_taken test xs at e =
     ap (remove xs) (place_found test xs at e).0 ∙ sym (without_first_at test xs)
 
-pub none_taken : (test : Order → Bool) (xs : List Order) → None ≡ first_that test xs → xs ≡ without_first test xs
+pub none_taken : (test : Order → Bool) (xs : List Order) → None ≡ find test xs → xs ≡ without_first test xs
 none_taken test xs e =
     let past = slice_get_none xs (prefix_len (λ x. not (test x)) xs) (e ∙ first_that_at test xs) in
     sym (without_first_at test xs ∙ removed_past xs _ past)
 
-pub first_order : (test : Order → Bool) (xs : List Order) (at : ℕ) → Some at ≡ place_of test xs → slice_get xs at ≡ first_that test xs
+pub first_order : (test : Order → Bool) (xs : List Order) (at : ℕ) → Some at ≡ position test xs → slice_get xs at ≡ find test xs
 first_order test xs at e = ap (slice_get xs) (place_found test xs at e).0 ∙ sym (first_that_at test xs)
 
 -- a cut at the place of an hour's best order is a cut of that order
-pub first_cut : (hour energy : ℕ) (xs : List Order) (at : ℕ) → Some at ≡ place_of (of_hour hour) xs → cut_at at energy xs ≡ cut_list hour energy xs
+pub first_cut : (hour energy : ℕ) (xs : List Order) (at : ℕ) → Some at ≡ position (of_hour hour) xs → cut_at at energy xs ≡ cut_list hour energy xs
 first_cut hour energy xs at e =
     let is : at ≡ prefix_len (λ x. not (of_hour hour x)) xs = (place_found (of_hour hour) xs at e).0 in
-    let best : slice_get xs at ≡ first_that (of_hour hour) xs = first_order (of_hour hour) xs at e in
+    let best : slice_get xs at ≡ find (of_hour hour) xs = first_order (of_hour hour) xs at e in
     let whole : remove xs at ≡ without_first (of_hour hour) xs = first_taken (of_hour hour) xs at e in
     let part : set xs at (lessened energy (get_or xs at blank)) ≡ lessened_first (of_hour hour) energy xs =
     ap (λ place. set xs place (lessened energy (get_or xs place blank))) is ∙ sym (lessened_first_at (of_hour hour) energy xs blank) in
-    ap (λ order. cond (eqb (energy_in order) energy) (remove xs at) (set xs at (lessened energy (get_or xs at blank)))) best ∙ (ap (λ ys. cond (eqb (energy_in (first_that (of_hour hour) xs)) energy) ys (set xs at (lessened energy (get_or xs at blank)))) whole ∙ ap (λ ys. cond (eqb (energy_in (first_that (of_hour hour) xs)) energy) (without_first (of_hour hour) xs) ys) part)
+    ap (λ order. cond (eqb (energy_in order) energy) (remove xs at) (set xs at (lessened energy (get_or xs at blank)))) best ∙ (ap (λ ys. cond (eqb (energy_in (find (of_hour hour) xs)) energy) ys (set xs at (lessened energy (get_or xs at blank)))) whole ∙ ap (λ ys. cond (eqb (energy_in (find (of_hour hour) xs)) energy) (without_first (of_hour hour) xs) ys) part)
 
 -- no order of the hour: nothing can be taken
-pub none_cut : (hour energy : ℕ) (xs : List Order) → None ≡ first_that (of_hour hour) xs → by_book (Err (CutTooLarge energy)) ≡ cut_answer hour energy xs
+pub none_cut : (hour energy : ℕ) (xs : List Order) → None ≡ find (of_hour hour) xs → by_book (Err (CutTooLarge energy)) ≡ cut_answer hour energy xs
 none_cut hour energy xs e = nothing energy ∙ ap (taking energy) e where
   nothing : (energy : ℕ) → by_book (Err (CutTooLarge energy)) ≡ taking energy None
   nothing energy = grind (arith, nat_tests)

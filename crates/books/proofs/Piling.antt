@@ -1,6 +1,6 @@
 -- What a change of a pile's places makes of its list. The orders that stand in them are xs before and ys after.
 use Rattle.std.proofs.Common.{◌≡◌, ℕ, suc, ◌+◌, ◌<◌, ◌≤◌, Bool, true, false, cond, not, ◌&&◌, ◌||◌, eqb, ◌⊎◌, List, [], ◌∷◌, ◌++◌, length, get_or, take, drop, set, is_some, Some, None, Ok, Err, Result, sym, refl, ap, ◌∙◌, inl, inr, add-one, arith}
-use Rattle.std.specs.List.{prefix_len, remove, slice_get}
+use Rattle.std.specs.List.{prefix_len, remove, slice_get, list_all, find, position}
 use Rattle.std.proofs.lemmas.List.{take-append-drop, drop_more, set_split, append-nil, take_more_set}
 use Rattle.std.proofs.lemmas.Option.{slice_get-get_or, slice_get_past}
 use Rattle.std.proofs.lemmas.Bool.{cases_lt, and_from, not_from_false}
@@ -8,9 +8,9 @@ use Rattle.std.proofs.lemmas.Bool.Decides.{nat_tests}
 use Rattle.figures.specs.Orders.{within_figures, blank}
 use Rattle.figures.specs.declared.order.Order.{Order}
 use Rattle.figures.specs.declared.refusal.Reason.TheVariants.{SerialStands}
-use Rattle.sides.specs.Listing.{accepted, apart, each, ranked_in, room_for, sooner, stands}
+use Rattle.sides.specs.Listing.{accepted, apart, ranked_in, room_for, sooner, stands}
 use Rattle.sides.specs.Ranking.{Ranks}
-use Rattle.book.specs.Lists.{first_that, lessened, lessened_first, of_hour, place_of, with_serial, without_first}
+use Rattle.book.specs.Lists.{lessened, lessened_first, of_hour, with_serial, without_first}
 use Rattle.book.specs.Meaning.{best, cut_list, energy_in, put_answer}
 use Rattle.book.proofs.Places.{first_that_at, without_first_at, place_none, found_at}
 use Rattle.book.proofs.Ranked.{ListingLaws}
@@ -21,16 +21,16 @@ use Rattle.books.proofs.Sorting.{sort_pick, without_first_sorted, lessened_first
 
 -- put
 
-stands_first : (serial : ℕ) (xs : List Order) → stands serial xs ≡ is_some (first_that (with_serial serial) xs)
+stands_first : (serial : ℕ) (xs : List Order) → stands serial xs ≡ is_some (find (with_serial serial) xs)
 stands_first serial [] = refl
 stands_first serial (x ∷ xs) =
-    elim (eqb x.serial serial) as (λ v. (v || stands serial xs) ≡ is_some (cond v (Some x) (first_that (with_serial serial) xs))) [ true ↦ refl | false ↦ stands_first serial xs ]
+    elim (eqb x.serial serial) as (λ v. (v || stands serial xs) ≡ is_some (cond v (Some x) (find (with_serial serial) xs))) [ true ↦ refl | false ↦ stands_first serial xs ]
 
-pub stands_found : (serial : ℕ) (xs : List Order) (at : ℕ) → Some at ≡ place_of (with_serial serial) xs → stands serial xs ≡ true
+pub stands_found : (serial : ℕ) (xs : List Order) (at : ℕ) → Some at ≡ position (with_serial serial) xs → stands serial xs ≡ true
 stands_found serial xs at e =
     stands_first serial xs ∙ ap is_some (sym (found_at (with_serial serial) xs at blank e))
 
-pub stands_nowhere : (serial : ℕ) (xs : List Order) → None ≡ place_of (with_serial serial) xs → stands serial xs ≡ false
+pub stands_nowhere : (serial : ℕ) (xs : List Order) → None ≡ position (with_serial serial) xs → stands serial xs ≡ false
 stands_nowhere serial xs e =
     stands_first serial xs ∙ ap is_some (sym (place_none (with_serial serial) xs e))
 
@@ -43,7 +43,7 @@ room_given capacity xs order l e = grind (arith, nat_tests)
 pub put_behind : (order : Order) (xs : List Order) (count : ℕ) → count < length xs → take (count + 1) (set xs count order) ≡ take count xs ++ order ∷ []
 put_behind order xs count l = take_more_set xs count order l
 
-pub behind_figures : (order : Order) (xs : List Order) → within_figures order ≡ true → each within_figures xs ≡ true → each within_figures (xs ++ order ∷ []) ≡ true
+pub behind_figures : (order : Order) (xs : List Order) → within_figures order ≡ true → list_all within_figures xs ≡ true → list_all within_figures (xs ++ order ∷ []) ≡ true
 behind_figures order [] one all = grind (arith, nat_tests)
 behind_figures order (x ∷ xs) one all = let k = behind_figures order xs one in grind (arith, nat_tests)
 
@@ -70,15 +70,15 @@ split_at : (xs : List Order) (at : ℕ) → at < length xs → xs ≡ take at xs
 split_at xs at l =
     sym (take-append-drop at xs) ∙ ap (λ ys. take at xs ++ ys) (drop_more xs at blank l ∙ ap (λ n. get_or xs at blank ∷ drop n xs) (add-one at))
 
-pub taken_sorted : (before : Order → Order → Bool) → ListingLaws before → (test : Order → Bool) (xs : List Order) (at : ℕ) → apart xs ≡ true → at < length xs → first_that test (sorted before xs) ≡ Some (get_or xs at blank) → sorted before (remove xs at) ≡ without_first test (sorted before xs)
+pub taken_sorted : (before : Order → Order → Bool) → ListingLaws before → (test : Order → Bool) (xs : List Order) (at : ℕ) → apart xs ≡ true → at < length xs → find test (sorted before xs) ≡ Some (get_or xs at blank) → sorted before (remove xs at) ≡ without_first test (sorted before xs)
 taken_sorted before laws test xs at h l e =
     let is = split_at xs at l in
-    sym (ap (λ ys. without_first test (sorted before ys)) is ∙ without_first_sorted before laws test (take at xs) (drop (suc at) xs) (get_or xs at blank) (ap apart (sym is) ∙ h) (ap (λ ys. first_that test (sorted before ys)) (sym is) ∙ e))
+    sym (ap (λ ys. without_first test (sorted before ys)) is ∙ without_first_sorted before laws test (take at xs) (drop (suc at) xs) (get_or xs at blank) (ap apart (sym is) ∙ h) (ap (λ ys. find test (sorted before ys)) (sym is) ∙ e))
 
-lessened_sorted : (first : Ranks) → ListingLaws (sooner first) → (test : Order → Bool) (energy : ℕ) (xs : List Order) (at : ℕ) → apart xs ≡ true → at < length xs → first_that test (sorted (sooner first) xs) ≡ Some (get_or xs at blank) → sorted (sooner first) (set xs at (lessened energy (get_or xs at blank))) ≡ lessened_first test energy (sorted (sooner first) xs)
+lessened_sorted : (first : Ranks) → ListingLaws (sooner first) → (test : Order → Bool) (energy : ℕ) (xs : List Order) (at : ℕ) → apart xs ≡ true → at < length xs → find test (sorted (sooner first) xs) ≡ Some (get_or xs at blank) → sorted (sooner first) (set xs at (lessened energy (get_or xs at blank))) ≡ lessened_first test energy (sorted (sooner first) xs)
 lessened_sorted first laws test energy xs at h l e =
     let is = split_at xs at l in
-    ap (sorted (sooner first)) (set_split xs at _ l) ∙ sym (ap (λ ys. lessened_first test energy (sorted (sooner first) ys)) is ∙ lessened_first_sorted first laws test energy (take at xs) (drop (suc at) xs) (get_or xs at blank) (ap apart (sym is) ∙ h) (ap (λ ys. first_that test (sorted (sooner first) ys)) (sym is) ∙ e))
+    ap (sorted (sooner first)) (set_split xs at _ l) ∙ sym (ap (λ ys. lessened_first test energy (sorted (sooner first) ys)) is ∙ lessened_first_sorted first laws test energy (take at xs) (drop (suc at) xs) (get_or xs at blank) (ap apart (sym is) ∙ h) (ap (λ ys. find test (sorted (sooner first) ys)) (sym is) ∙ e))
 
 pub cut_sorted : (first : Ranks) → ListingLaws (sooner first) → (hour energy : ℕ) (xs : List Order) (at : ℕ) → apart xs ≡ true → at < length xs → slice_get xs at ≡ best hour (sorted (sooner first) xs) → sorted (sooner first) (cut_at at energy xs) ≡ cut_list hour energy (sorted (sooner first) xs)
 cut_sorted first laws hour energy xs at h l e =
@@ -99,11 +99,11 @@ pub withdrawn_sorted : (before : Order → Order → Bool) → ListingLaws befor
 withdrawn_sorted before laws serial xs h = by (cases_lt (prefix_len (λ x. not (with_serial serial x)) xs) (length xs)) where
   by : ((prefix_len (λ x. not (with_serial serial x)) xs) < length xs) ⊎ (length xs ≤ (prefix_len (λ x. not (with_serial serial x)) xs)) → sorted before (without_first (with_serial serial) xs) ≡ without_first (with_serial serial) (sorted before xs)
   by (inl l) =
-      let found : first_that (with_serial serial) (sorted before xs) ≡ Some (get_or xs (prefix_len (λ x. not (with_serial serial x)) xs) blank) =
+      let found : find (with_serial serial) (sorted before xs) ≡ Some (get_or xs (prefix_len (λ x. not (with_serial serial x)) xs) blank) =
       found_sorted before serial xs h ∙ (first_that_at (with_serial serial) xs ∙ slice_get-get_or xs (prefix_len (λ x. not (with_serial serial x)) xs) blank l) in
       ap (sorted before) (without_first_at (with_serial serial) xs) ∙ taken_sorted before laws (with_serial serial) xs (prefix_len (λ x. not (with_serial serial x)) xs) h l found
   by (inr l) =
-      let none : first_that (with_serial serial) xs ≡ None = first_that_at (with_serial serial) xs ∙ slice_get_past xs (prefix_len (λ x. not (with_serial serial x)) xs) l in
+      let none : find (with_serial serial) xs ≡ None = first_that_at (with_serial serial) xs ∙ slice_get_past xs (prefix_len (λ x. not (with_serial serial x)) xs) l in
       ap (sorted before) (sym (none_taken (with_serial serial) xs (sym none))) ∙ none_taken (with_serial serial) (sorted before xs) (sym (found_sorted before serial xs h ∙ none))
 
 -- position

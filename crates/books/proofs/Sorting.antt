@@ -1,13 +1,13 @@
 -- What sorting keeps, and how a change of the pile shows in its sorted list.
 use Rattle.std.proofs.Common.{◌≡◌, ℕ, zero, suc, ◌+◌, Bool, true, false, cond, not, ◌&&◌, ◌||◌, eqb, List, [], ◌∷◌, ◌++◌, length, Some, filter, sym, refl, ◌∙◌, add-one, arith}
-use Rattle.std.specs.List.{slice_get}
+use Rattle.std.specs.List.{slice_get, list_all, find}
 use Rattle.std.proofs.lemmas.List.{append-nil}
 use Rattle.std.proofs.lemmas.Bool.{and_parts, eqb-false, not-true, or_parts}
 use Rattle.std.proofs.lemmas.Bool.Decides.{nat_tests}
 use Rattle.figures.specs.declared.order.Order.{Order}
 use Rattle.sides.specs.Ranking.{Ranks}
-use Rattle.sides.specs.Listing.{Ranked, apart, each, ranked_in, sooner, stands}
-use Rattle.book.specs.Lists.{first_that, lessened, lessened_first, total_energy, with_serial, without_first}
+use Rattle.sides.specs.Listing.{Ranked, apart, ranked_in, sooner, stands}
+use Rattle.book.specs.Lists.{lessened, lessened_first, total_energy, with_serial, without_first}
 use Rattle.book.proofs.Ranked.{ListingLaws, ranked_put}
 use Rattle.book.proofs.Sound.{each_filter}
 use Rattle.books.specs.Choosing.{soonest_of}
@@ -29,30 +29,30 @@ picked_apart : (f k : List Order) (y : Order) → apart (f ++ y ∷ k) ≡ true 
 picked_apart f k y h = let p = apart_pick f k y in grind (arith, nat_tests)
 
 -- an order that was found stands there
-found_stands : (test : Order → Bool) (xs : List Order) (y : Order) → first_that test xs ≡ Some y → stands y.serial xs ≡ true
+found_stands : (test : Order → Bool) (xs : List Order) (y : Order) → find test xs ≡ Some y → stands y.serial xs ≡ true
 found_stands test [] y e = cc
 found_stands test (x ∷ xs) y e = let h = found_stands test xs y in grind (arith, nat_tests)
 
 -- y, just put in, is found first: without it the list is as it was
-without_put : (before : Order → Order → Bool) (test : Order → Bool) (y : Order) (xs : List Order) → stands y.serial xs ≡ false → first_that test (ranked_in before y xs) ≡ Some y → without_first test (ranked_in before y xs) ≡ xs
+without_put : (before : Order → Order → Bool) (test : Order → Bool) (y : Order) (xs : List Order) → stands y.serial xs ≡ false → find test (ranked_in before y xs) ≡ Some y → without_first test (ranked_in before y xs) ≡ xs
 without_put before test y [] s e = grind (arith, nat_tests)
 without_put before test y (x ∷ xs) s e =
     let h = without_put before test y xs in
     let f = found_stands test (x ∷ xs) y in
     grind (arith, nat_tests)
 
-lessened_put : (first : Ranks) (test : Order → Bool) (energy : ℕ) (y : Order) (xs : List Order) → stands y.serial xs ≡ false → first_that test (ranked_in (sooner first) y xs) ≡ Some y → lessened_first test energy (ranked_in (sooner first) y xs) ≡ ranked_in (sooner first) (lessened energy y) xs
+lessened_put : (first : Ranks) (test : Order → Bool) (energy : ℕ) (y : Order) (xs : List Order) → stands y.serial xs ≡ false → find test (ranked_in (sooner first) y xs) ≡ Some y → lessened_first test energy (ranked_in (sooner first) y xs) ≡ ranked_in (sooner first) (lessened energy y) xs
 lessened_put first test energy y [] s e = grind (arith, nat_tests)
 lessened_put first test energy y (x ∷ xs) s e =
     let h = lessened_put first test energy y xs in
     let f = found_stands test (x ∷ xs) y in
     grind (arith, nat_tests)
 
-found_put : (before : Order → Order → Bool) (serial : ℕ) (x : Order) (xs : List Order) → stands x.serial xs ≡ false → first_that (with_serial serial) (ranked_in before x xs) ≡ cond (eqb x.serial serial) (Some x) (first_that (with_serial serial) xs)
+found_put : (before : Order → Order → Bool) (serial : ℕ) (x : Order) (xs : List Order) → stands x.serial xs ≡ false → find (with_serial serial) (ranked_in before x xs) ≡ cond (eqb x.serial serial) (Some x) (find (with_serial serial) xs)
 found_put before serial x [] s = refl
 found_put before serial x (y ∷ ys) s = let h = found_put before serial x ys in grind (arith, nat_tests)
 
-pub found_sorted : (before : Order → Order → Bool) (serial : ℕ) (xs : List Order) → apart xs ≡ true → first_that (with_serial serial) (sorted before xs) ≡ first_that (with_serial serial) xs
+pub found_sorted : (before : Order → Order → Bool) (serial : ℕ) (xs : List Order) → apart xs ≡ true → find (with_serial serial) (sorted before xs) ≡ find (with_serial serial) xs
 found_sorted before serial [] h = refl
 found_sorted before serial (x ∷ xs) h =
     let s = stands_sorted x.serial before xs in
@@ -82,18 +82,18 @@ energy_sorted before test (x ∷ xs) =
     let h = energy_sorted before test xs in
     grind (arith, nat_tests)
 
-pub slice_get_first : (xs : List Order) → slice_get xs 0 ≡ first_that (λ _. true) xs
+pub slice_get_first : (xs : List Order) → slice_get xs 0 ≡ find (λ _. true) xs
 slice_get_first [] = refl
 slice_get_first (x ∷ xs) = refl
 
-slice_get_passes : (test : Order → Bool) (xs : List Order) → each test xs ≡ true → slice_get xs 0 ≡ first_that test xs
+slice_get_passes : (test : Order → Bool) (xs : List Order) → list_all test xs ≡ true → slice_get xs 0 ≡ find test xs
 slice_get_passes test [] h = refl
 slice_get_passes test (x ∷ xs) h = grind (arith, nat_tests)
 
-each_nth : (test : Order → Bool) (xs : List Order) (n : ℕ) (y : Order) → each test xs ≡ true → slice_get xs n ≡ Some y → test y ≡ true
+each_nth : (test : Order → Bool) (xs : List Order) (n : ℕ) (y : Order) → list_all test xs ≡ true → slice_get xs n ≡ Some y → test y ≡ true
 each_nth test [] n y h e = cc
 each_nth test (x ∷ xs) zero y h e = grind (arith, nat_tests)
-each_nth test (x ∷ xs) (suc n) y h e = each_nth test xs n y (and_parts (test x) (each test xs) h).1 e
+each_nth test (x ∷ xs) (suc n) y h e = each_nth test xs n y (and_parts (test x) (list_all test xs) h).1 e
 
 module _ (before : Order → Order → Bool) (laws : ListingLaws before) where
   pub sorted_ranked : (xs : List Order) → apart xs ≡ true → Ranked before (sorted before xs)
@@ -125,7 +125,7 @@ module _ (before : Order → Order → Bool) (laws : ListingLaws before) where
       rw (sort_pick f k y p.1) (swap_in z y (sorted before (f ++ k)) (λ e. n (sym e)))
 
   -- nothing behind an order that does not come before x comes before x
-  none_before : (x y : Order) (ys : List Order) → before y x ≡ false → each (before y) ys ≡ true → each (λ z. not (before z x)) ys ≡ true
+  none_before : (x y : Order) (ys : List Order) → before y x ≡ false → list_all (before y) ys ≡ true → list_all (λ z. not (before z x)) ys ≡ true
   none_before x y [] e h = refl
   none_before x y (z ∷ zs) e h =
       let c = laws.chain y z x in
@@ -133,7 +133,7 @@ module _ (before : Order → Order → Bool) (laws : ListingLaws before) where
       grind (arith, nat_tests)
 
   -- x goes in front of orders of which none comes before it
-  in_front : (x : Order) (xs : List Order) → each (λ z. not (before z x)) xs ≡ true → ranked_in before x xs ≡ x ∷ xs
+  in_front : (x : Order) (xs : List Order) → list_all (λ z. not (before z x)) xs ≡ true → ranked_in before x xs ≡ x ∷ xs
   in_front x [] h = refl
   in_front x (y ∷ ys) h = grind (arith, nat_tests)
 
@@ -153,11 +153,11 @@ module _ (before : Order → Order → Bool) (laws : ListingLaws before) where
       grind (arith, nat_tests)
 
   -- x comes first where no order comes before it
-  soonest_front : (test : Order → Bool) (x : Order) (xs : List Order) → each (λ z. not (before z x)) xs ≡ true → soonest_of before (first_that test xs) x ≡ Some x
+  soonest_front : (test : Order → Bool) (x : Order) (xs : List Order) → list_all (λ z. not (before z x)) xs ≡ true → soonest_of before (find test xs) x ≡ Some x
   soonest_front test x [] h = refl
   soonest_front test x (y ∷ ys) h = let k = soonest_front test x ys in grind (arith, nat_tests)
 
-  first_ranked_in : (test : Order → Bool) (x : Order) (xs : List Order) → Ranked before xs → first_that test (ranked_in before x xs) ≡ cond (test x) (soonest_of before (first_that test xs) x) (first_that test xs)
+  first_ranked_in : (test : Order → Bool) (x : Order) (xs : List Order) → Ranked before xs → find test (ranked_in before x xs) ≡ cond (test x) (soonest_of before (find test xs) x) (find test xs)
   first_ranked_in test x [] r = refl
   first_ranked_in test x (y ∷ ys) r =
       let h = first_ranked_in test x ys r.1 in
@@ -165,7 +165,7 @@ module _ (before : Order → Order → Bool) (laws : ListingLaws before) where
       grind (arith, nat_tests)
 
   -- one more order: it is the first that passes unless the one found before comes before it
-  pub first_that_push : (test : Order → Bool) (xs : List Order) (x : Order) → apart (xs ++ x ∷ []) ≡ true → first_that test (sorted before (xs ++ x ∷ [])) ≡ cond (test x) (soonest_of before (first_that test (sorted before xs)) x) (first_that test (sorted before xs))
+  pub first_that_push : (test : Order → Bool) (xs : List Order) (x : Order) → apart (xs ++ x ∷ []) ≡ true → find test (sorted before (xs ++ x ∷ [])) ≡ cond (test x) (soonest_of before (find test (sorted before xs)) x) (find test (sorted before xs))
   first_that_push test xs x h =
       let s = sort_pick xs [] x h in
       let n = append-nil xs in
@@ -173,13 +173,13 @@ module _ (before : Order → Order → Bool) (laws : ListingLaws before) where
       let k = first_ranked_in test x (sorted before xs) (sorted_ranked xs a) in
       rw (s, n) k
 
-  pub without_first_sorted : (test : Order → Bool) (f k : List Order) (y : Order) → apart (f ++ y ∷ k) ≡ true → first_that test (sorted before (f ++ y ∷ k)) ≡ Some y → without_first test (sorted before (f ++ y ∷ k)) ≡ sorted before (f ++ k)
+  pub without_first_sorted : (test : Order → Bool) (f k : List Order) (y : Order) → apart (f ++ y ∷ k) ≡ true → find test (sorted before (f ++ y ∷ k)) ≡ Some y → without_first test (sorted before (f ++ y ∷ k)) ≡ sorted before (f ++ k)
   without_first_sorted test f k y h e =
       let s = sort_pick f k y h in
       rw s (without_put before test y (sorted before (f ++ k)) (stands_sorted y.serial before (f ++ k) ∙ picked_apart f k y h) (rw s at e))
 
   -- the one behind y is the first of those that y comes before
-  pub slice_get_next : (xs : List Order) (n : ℕ) (y : Order) → Ranked before xs → slice_get xs n ≡ Some y → slice_get xs (n + 1) ≡ first_that (before y) xs
+  pub slice_get_next : (xs : List Order) (n : ℕ) (y : Order) → Ranked before xs → slice_get xs n ≡ Some y → slice_get xs (n + 1) ≡ find (before y) xs
   slice_get_next [] n y r e = cc
   slice_get_next (x ∷ xs) zero y r e =
       let o = laws.one_way x x in
@@ -192,7 +192,7 @@ module _ (before : Order → Order → Bool) (laws : ListingLaws before) where
       let j = add-one n in
       grind (arith, nat_tests)
 
-pub lessened_first_sorted : (first : Ranks) → ListingLaws (sooner first) → (test : Order → Bool) (energy : ℕ) (f k : List Order) (y : Order) → apart (f ++ y ∷ k) ≡ true → first_that test (sorted (sooner first) (f ++ y ∷ k)) ≡ Some y → lessened_first test energy (sorted (sooner first) (f ++ y ∷ k)) ≡ sorted (sooner first) (f ++ lessened energy y ∷ k)
+pub lessened_first_sorted : (first : Ranks) → ListingLaws (sooner first) → (test : Order → Bool) (energy : ℕ) (f k : List Order) (y : Order) → apart (f ++ y ∷ k) ≡ true → find test (sorted (sooner first) (f ++ y ∷ k)) ≡ Some y → lessened_first test energy (sorted (sooner first) (f ++ y ∷ k)) ≡ sorted (sooner first) (f ++ lessened energy y ∷ k)
 lessened_first_sorted first laws test energy f k y h e =
     let s = sort_pick (sooner first) laws f k y h in
     let t = sort_pick (sooner first) laws f k (lessened energy y) (apart_pick f k (lessened energy y) ∙ (sym (apart_pick f k y) ∙ h)) in

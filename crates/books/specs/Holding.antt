@@ -1,10 +1,10 @@
 -- The orders that stand in a caller's places. What is proved here, nobody has to believe.
 use Rattle.std.specs.Prelude.{◌≡◌, ℕ, zero, suc, ◌≤◌, true, cond, List, [], ◌∷◌, length, take, ◌==◌, slice_index_or, slice_set}
 use Rattle.std.proofs.Common.{zero-le, suc-le-suc}
-use Rattle.std.specs.List.{remove, slice_get}
+use Rattle.std.specs.List.{remove, slice_get, list_all}
 use Rattle.figures.specs.Orders.{blank, within_figures}
 use Rattle.figures.specs.declared.order.Order.{Order}
-use Rattle.sides.specs.Listing.{apart, each}
+use Rattle.sides.specs.Listing.{apart}
 use Rattle.book.specs.Lists.{lessened}
 use Rattle.book.specs.Meaning.{Sound, energy_in}
 use Rattle.books.specs.declared.places.Places.{Places}
@@ -26,7 +26,7 @@ size places = length places.orders.now
 -- what holds of so many places in which these orders stand
 abbrev pub Fill : ℕ → ℕ → List Order → Type 0
 Fill places count xs =
-    (1 ≤ places) × (places ≤ 4096) × (count ≤ places) × (each within_figures xs ≡ true) × (apart xs ≡ true)
+    (1 ≤ places) × (places ≤ 4096) × (count ≤ places) × (list_all within_figures xs ≡ true) × (apart xs ≡ true)
 
 -- what holds of the places of every book
 abbrev pub Filled : Places → Type 0

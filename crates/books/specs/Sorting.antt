@@ -1,9 +1,10 @@
 -- Orders in listed order, whatever order they stand in. What is proved here, nobody has to believe.
 use Rattle.std.specs.Prelude.{◌≡◌, ℕ, suc, ◌≤◌, Bool, not, ◌&&◌, ◌||◌, List, [], ◌∷◌, length, ◌==◌, refl}
+use Rattle.std.specs.List.{list_all}
 use Rattle.std.proofs.Common.{sym, ap, subst, ◌∙◌, add-one}
 use Rattle.figures.specs.Orders.{within_figures}
 use Rattle.figures.specs.declared.order.Order.{Order}
-use Rattle.sides.specs.Listing.{apart, each, ranked_in, stands}
+use Rattle.sides.specs.Listing.{apart, ranked_in, stands}
 use Rattle.book.specs.Meaning.{Sound}
 use Rattle.books.specs.Holding.{held, size, Filled, sound}
 use Rattle.books.specs.declared.places.Places.{Places}
@@ -14,7 +15,7 @@ abbrev pub sorted : (Order → Order → Bool) → List Order → List Order
 sorted before [] = []
 sorted before (x ∷ xs) = ranked_in before x (sorted before xs)
 
-pub each_sorted : (test : Order → Bool) (before : Order → Order → Bool) (xs : List Order) → each test (sorted before xs) ≡ each test xs
+pub each_sorted : (test : Order → Bool) (before : Order → Order → Bool) (xs : List Order) → list_all test (sorted before xs) ≡ list_all test xs
 each_sorted test before [] = refl
 each_sorted test before (x ∷ xs) =
     each_ranked_in test before x (sorted before xs) ∙ ap (λ b. test x && b) (each_sorted test before xs)

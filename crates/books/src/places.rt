@@ -1,8 +1,8 @@
 // Places for orders, and what both kinds of book do with them.
 ghost use Rattle.std.specs.Prelude.{◌≡◌, ◌<◌, [], ◌∷◌, ◌++◌, length, IfOk, filter};
-ghost use Rattle.std.specs.List.{remove, slice_get};
+ghost use Rattle.std.specs.List.{remove, slice_get, find};
 ghost use Rattle.sides.specs.Listing.{accepted, ranked_in, room_for, sooner, StaysRanked, Untouched};
-ghost use Rattle.book.specs.Lists.{of_hour, with_serial, first_that, without_first, total_energy};
+ghost use Rattle.book.specs.Lists.{of_hour, with_serial, without_first, total_energy};
 ghost use Rattle.book.specs.Meaning.{checked_places, made_answer, put_answer, taking, other_hours};
 ghost use Rattle.books.specs.Holding.{held, size, Filled, cut_at};
 
@@ -119,7 +119,7 @@ impl<'a> Places<'a> {
         requires { Filled self.old }
         ensures filled { Filled self.new }
         ensures size { size self.new ≡ size self.old }
-        ensures answer { result ≡ first_that (with_serial serial) (held self.old) }
+        ensures answer { result ≡ find (with_serial serial) (held self.old) }
         ensures list { held self.new ≡ without_first (with_serial serial) (held self.old) }
     {
         match place_of(self.held(), &WithSerial(serial)) {

@@ -1,3 +1,2 @@
 pub mod Ranks
-pub mod Scanning
 pub mod Shifting

@@ -1,6 +1,6 @@
 -- The order in which a book lists: by rising hour, and within an hour by rank.
-use Rattle.std.specs.Prelude.{◌≡◌, ℕ, Bool, true, false, cond, not, ◌&&◌, ◌||◌, List, [], ◌∷◌, length, Some, None, Ok, Err, Option, Result, ◌==◌, nat_le, nat_lt}
-use Rattle.std.specs.List.{prefix_len}
+use Rattle.std.specs.Prelude.{◌≡◌, ℕ, Bool, true, cond, not, ◌&&◌, ◌||◌, List, [], ◌∷◌, length, Some, None, Ok, Err, Option, Result, ◌==◌, nat_le, nat_lt}
+use Rattle.std.specs.List.{list_all, list_any, prefix_len}
 use Rattle.figures.specs.Bounds.{refuse_if}
 use Rattle.figures.specs.declared.order.Order.{Order}
 use Rattle.figures.specs.declared.refusal.Reason.{Reason}
@@ -14,22 +14,17 @@ sooner first a b =
 
 -- whether an order with that serial is among them
 abbrev pub stands : ℕ → List Order → Bool
-stands serial [] = false
-stands serial (x ∷ xs) = x.serial == serial || stands serial xs
+stands serial xs = list_any (λ x. x.serial == serial) xs
 
 -- no serial stands twice
 abbrev pub apart : List Order → Bool
 apart [] = true
 apart (x ∷ xs) = not (stands x.serial xs) && apart xs
 
-abbrev pub each : (Order → Bool) → List Order → Bool
-each test [] = true
-each test (x ∷ xs) = test x && each test xs
-
 -- each order comes before all that are listed behind it
 abbrev pub Ranked : (Order → Order → Bool) → List Order → Type 0
 Ranked before [] = Unit {0}
-Ranked before (x ∷ xs) = (each (before x) xs ≡ true) × Ranked before xs
+Ranked before (x ∷ xs) = (list_all (before x) xs ≡ true) × Ranked before xs
 
 -- a ranked list stays ranked
 abbrev pub StaysRanked : (Order → Order → Bool) → List Order → List Order → Type 0

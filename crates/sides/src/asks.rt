@@ -1,5 +1,5 @@
 // The asks: the lower limit first, and at equal limits the lower serial.
-ghost use Rattle.std.specs.Prelude.{nat_lt};
+ghost use Rattle.std.specs.Prelude.{nat_lt, negsuc, refl};
 ghost use Rattle.sides.specs.Ranking.{selling, limit_then};
 ghost use Rattle.std.proofs.Common.{rules};
 
@@ -20,7 +20,7 @@ impl Ranking for LowestAskFirst {
     ghost lawful = { Prim.search rules };
 
     fn comes_first(order: &Order, other: &Order) -> bool {
-        order.limit < other.limit || order.limit == other.limit && order.serial < other.serial
+        (order.limit, order.serial) < (other.limit, other.serial)
     }
 }
 
@@ -33,9 +33,9 @@ impl Side for Asks {
 
     const MARKET: i32 = LOWEST_LIMIT;
 
-    fn market_limit() -> i32 {
-        Self::MARKET
-    }
+    ghost MARKET = { negsuc 49999 };
+
+    ghost market = { refl };
 }
 
 impl AskSide for Asks {

@@ -1,5 +1,5 @@
 // The bids: the higher limit first, and at equal limits the lower serial.
-ghost use Rattle.std.specs.Prelude.{nat_lt};
+ghost use Rattle.std.specs.Prelude.{nat_lt, pos, refl};
 ghost use Rattle.sides.specs.Ranking.{buying, limit_then};
 ghost use Rattle.std.proofs.Common.{rules};
 
@@ -7,6 +7,7 @@ use crate::ranking::Ranking;
 use crate::side::{BidSide, Side};
 use figures::bounds::HIGHEST_LIMIT;
 use figures::order::Order;
+use std::cmp::Reverse;
 
 /// The ranking of the bids.
 #[derive(Clone, Copy, Debug, PartialEq, Eq)]
@@ -20,7 +21,7 @@ impl Ranking for HighestBidFirst {
     ghost lawful = { Prim.search rules };
 
     fn comes_first(order: &Order, other: &Order) -> bool {
-        order.limit > other.limit || order.limit == other.limit && order.serial < other.serial
+        (Reverse(order.limit), order.serial) < (Reverse(other.limit), other.serial)
     }
 }
 
@@ -33,9 +34,9 @@ impl Side for Bids {
 
     const MARKET: i32 = HIGHEST_LIMIT;
 
-    fn market_limit() -> i32 {
-        Self::MARKET
-    }
+    ghost MARKET = { pos 400000 };
+
+    ghost market = { refl };
 }
 
 impl BidSide for Bids {

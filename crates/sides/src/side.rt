@@ -1,5 +1,5 @@
 // A side of the market.
-ghost use Rattle.std.specs.Prelude.{◌≡◌};
+ghost use Rattle.std.specs.Prelude.{◌≡◌, ℤ};
 ghost use Rattle.sides.specs.Ranking.{buying, selling, market_figure};
 
 use crate::ranking::Ranking;
@@ -10,9 +10,18 @@ pub trait Side {
 
     const MARKET: i32;
 
+    // The constant, for clauses.
+    ghost MARKET: { ℤ };
+
+    // It is the limit that none is better than.
+    ghost market: { MARKET ≡ market_figure Self.Rank.Ranking.direction };
+
     /// The limit that a market order of this side has.
-    fn market_limit() -> i32
-        ensures { result ≡ market_figure Self.Rank.Ranking.direction };
+    final fn market_limit() -> i32
+        ensures { result ≡ market_figure Self.Rank.Ranking.direction }
+    {
+        Self::MARKET
+    }
 }
 
 /// A side that buys.

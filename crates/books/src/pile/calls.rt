@@ -1,8 +1,7 @@
 // What a pile does.
 ghost use Rattle.std.specs.Prelude.{◌≡◌, true, [], length, IfOk};
-ghost use Rattle.std.specs.List.{slice_get};
+ghost use Rattle.std.specs.List.{slice_get, find};
 ghost use Rattle.sides.specs.Listing.{accepted, apart, sooner, Untouched};
-ghost use Rattle.book.specs.Lists.{first_that};
 ghost use Rattle.book.specs.Meaning.{checked_places, made_answer, cut_answer, cut_list};
 ghost use Rattle.books.specs.Choosing.{sought};
 ghost use Rattle.books.specs.Holding.{held, size, Filled};
@@ -81,7 +80,7 @@ impl<'a, S: Side> Book<S> for Pile<'a, S> {
 // The order that is listed first of those that are sought. One pass.
 fn first_among<R: Ranking>(orders: &[Order], among: &Among) -> Option<Order>
     requires { apart orders.now ≡ true }
-    ensures { result ≡ first_that (sought R.Ranking.first among.now) (sorted (sooner R.Ranking.first) orders.now) }
+    ensures { result ≡ find (sought R.Ranking.first among.now) (sorted (sooner R.Ranking.first) orders.now) }
 {
     match soonest::<R>(orders, among) {
         Some(at) => Some(orders[at]),

@@ -1,9 +1,8 @@
 // Which order of a pile is listed first.
 ghost use Rattle.std.specs.Prelude.{◌≡◌, ◌<◌, true, length, slice_index_or};
-ghost use Rattle.std.specs.List.{slice_get};
+ghost use Rattle.std.specs.List.{slice_get, find};
 ghost use Rattle.figures.specs.Orders.{blank};
 ghost use Rattle.sides.specs.Listing.{sooner, apart};
-ghost use Rattle.book.specs.Lists.{first_that};
 ghost use Rattle.books.specs.Choosing.{sought, order_in, Within, soonest_of};
 ghost use Rattle.books.specs.Sorting.{sorted};
 
@@ -16,7 +15,7 @@ use sides::slices::is_sooner;
 pub(super) fn soonest<R: Ranking>(orders: &[Order], among: &Among) -> Option<usize>
     requires { apart orders.now ≡ true }
     ensures within { Within (length orders.now) result }
-    ensures first { order_in orders.now result ≡ first_that (sought R.Ranking.first among.now) (sorted (sooner R.Ranking.first) orders.now) }
+    ensures first { order_in orders.now result ≡ find (sought R.Ranking.first among.now) (sorted (sooner R.Ranking.first) orders.now) }
 {
     let mut found = None;
     for (i, order) in orders.iter().enumerate() {

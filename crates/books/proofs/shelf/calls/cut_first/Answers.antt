@@ -1,6 +1,7 @@
 use Rattle.std.proofs.Common.{◌≡◌, take, Some, None, ap, ◌∙◌, rules}
+use Rattle.std.specs.List.{position}
 use Rattle.sides.specs.Listing.{accepted}
-use Rattle.book.specs.Lists.{place_of, of_hour}
+use Rattle.book.specs.Lists.{of_hour}
 use Rattle.book.specs.Meaning.{taking}
 use Rattle.book.proofs.Places.{place_none}
 use Rattle.books.proofs.Holding.{as_it_was, not_touched, first_order, first_cut, none_cut}
@@ -8,8 +9,8 @@ use Rattle.books.proofs.shelf.calls.cut_first.Goals as goal
 
 pub returns-in-Some : goal.returns-in-Some
 returns-in-Some c =
-    let found : Some c.in-Some.at ≡ place_of (of_hour c.args.hour) (take c.args.places.now.count c.args.places.now.orders.now) =
-    c.in-Some.ensures ∙ ap (place_of (of_hour c.args.hour)) c.held.ensures in
+    let found : Some c.in-Some.at ≡ position (of_hour c.args.hour) (take c.args.places.now.count c.args.places.now.orders.now) =
+    c.in-Some.ensures ∙ ap (position (of_hour c.args.hour)) c.held.ensures in
     record {
       filled = c.cut_at.ensures.filled;
       size = c.cut_at.ensures.size;
@@ -20,8 +21,8 @@ returns-in-Some c =
 
 pub returns-in-None : goal.returns-in-None
 returns-in-None c =
-    let nowhere : None ≡ place_of (of_hour c.args.hour) (take c.args.places.now.count c.args.places.now.orders.now) =
-    c.in-None.ensures ∙ ap (place_of (of_hour c.args.hour)) c.held.ensures in
+    let nowhere : None ≡ position (of_hour c.args.hour) (take c.args.places.now.count c.args.places.now.orders.now) =
+    c.in-None.ensures ∙ ap (position (of_hour c.args.hour)) c.held.ensures in
     let none = place_none (of_hour c.args.hour) (take c.args.places.now.count c.args.places.now.orders.now) nowhere in
     record {
       filled = search rules;
