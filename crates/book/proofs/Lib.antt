@@ -1,5 +1,5 @@
 pub mod Closing
+pub mod Kept
 pub mod Places
 pub mod Ranked
-pub mod Scans
 pub mod Sound

@@ -1,15 +1,11 @@
 -- The first order that passes a test, and the list without it, by its place.
 use Rattle.std.proofs.Common.{◌≡◌, ℕ, ◌+◌, ◌<◌, Bool, true, false, cond, not, ltb, List, [], ◌∷◌, length, get_or, set, Some, None, sym, refl, ap, ◌∙◌, one-add, arith}
 use Rattle.std.specs.List.{prefix_len, remove, slice_get, position, find}
+use Rattle.std.proofs.lemmas.List.Folds.{find_at}
 use Rattle.std.proofs.lemmas.Option.{slice_get_past, slice_get-get_or}
 use Rattle.std.proofs.lemmas.Bool.{ltb-true, ltb-false}
 use Rattle.figures.specs.declared.order.Order.{Order}
 use Rattle.book.specs.Lists.{without_first, lessened, lessened_first}
-
-pub first_that_at : (test : Order → Bool) (xs : List Order) → find test xs ≡ slice_get xs (prefix_len (λ x. not (test x)) xs)
-first_that_at test [] = refl
-first_that_at test (x ∷ xs) =
-    elim (test x) as (λ v. cond v (Some x) (find test xs) ≡ slice_get (x ∷ xs) (cond (not v) (1 + prefix_len (λ y. not (test y)) xs) 0)) [ true ↦ refl | false ↦ rw one-add (first_that_at test xs) ]
 
 pub without_first_at : (test : Order → Bool) (xs : List Order) → without_first test xs ≡ remove xs (prefix_len (λ x. not (test x)) xs)
 without_first_at test [] = refl
@@ -32,10 +28,10 @@ place_found test xs at e = found (ltb (prefix_len (λ x. not (test x)) xs) (leng
 pub found_at : (test : Order → Bool) (xs : List Order) (at : ℕ) (d : Order) → Some at ≡ position test xs → Some (get_or xs at d) ≡ find test xs
 found_at test xs at d e =
     let found = place_found test xs at e in
-    sym (first_that_at test xs ∙ (ap (slice_get xs) (sym found.0) ∙ slice_get-get_or xs at d found.1))
+    sym (find_at test xs ∙ (ap (slice_get xs) (sym found.0) ∙ slice_get-get_or xs at d found.1))
 
 pub place_none : (test : Order → Bool) (xs : List Order) → None ≡ position test xs → None ≡ find test xs
 place_none test xs e = none (ltb (prefix_len (λ x. not (test x)) xs) (length xs)) refl e where
   none : (b : Bool) → ltb (prefix_len (λ x. not (test x)) xs) (length xs) ≡ b → None ≡ cond b (Some (prefix_len (λ x. not (test x)) xs)) None → None ≡ find test xs
   none true b e = let z : ◌≡◌ {A = ℕ} 0 1 = cc in absurd (omega arith)
-  none false b e = sym (first_that_at test xs ∙ slice_get_past xs _ (ltb-false _ _ b))
+  none false b e = sym (find_at test xs ∙ slice_get_past xs _ (ltb-false _ _ b))

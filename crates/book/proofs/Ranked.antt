@@ -6,7 +6,7 @@ use Rattle.std.proofs.lemmas.Bool.Decides.{nat_tests}
 use Rattle.figures.specs.declared.order.Order.{Order}
 use Rattle.sides.specs.Ranking.{Direction, Lawful, Ranks}
 use Rattle.sides.specs.Listing.{Ranked, ranked_in, sooner, stands}
-use Rattle.book.specs.Kept.{each_ranked_in}
+use Rattle.book.proofs.Kept.{each_ranked_in}
 use Rattle.book.specs.Lists.{without_first, lessened, lessened_first}
 use Rattle.book.proofs.Sound.{each_without_first, each_filter}
 

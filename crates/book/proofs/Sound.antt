@@ -1,6 +1,7 @@
 -- Figures, serials and room are kept by every change.
 use Rattle.std.proofs.Common.{◌≡◌, ℕ, zero, suc, ◌*◌, ◌<◌, ◌≤◌, Bool, true, false, not, ◌&&◌, ◌||◌, eqb, List, [], ◌∷◌, length, get_or, set, Ok, filter, refl, ap, ◌∙◌, arith}
 use Rattle.std.specs.List.{remove, list_all}
+use Rattle.std.proofs.lemmas.List.Sums.{sum_by-cons}
 use Rattle.std.proofs.lemmas.Bool.{and_parts}
 use Rattle.std.proofs.lemmas.Bool.Decides.{nat_tests}
 use Rattle.figures.specs.Orders.{within_figures, checked_before}
@@ -85,6 +86,7 @@ most_energy [] h = omega arith
 most_energy (x ∷ xs) h =
     let k = most_energy xs in
     let one : within_figures x ≡ true → x.energy ≤ 1000000 = λ e. grind (arith, nat_tests) in
+    let sum = sum_by-cons (λ y. y.energy) x xs in
     grind (arith, nat_tests)
 
 -- an order that passed the checks is within the figures

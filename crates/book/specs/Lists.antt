@@ -1,6 +1,6 @@
 -- Words for lists of orders: the first that passes a test, the list without it, energy.
 use Rattle.std.specs.Prelude.{ℕ, ◌+◌, ◌-◌, Bool, cond, not, List, [], ◌∷◌, ◌++◌, length, take, drop, Some, None, Option, ◌==◌, nat_lt}
-use Rattle.std.specs.List.{prefix_len, remove}
+use Rattle.std.specs.List.{remove, sum_by}
 use Rattle.figures.specs.declared.order.Order.{Order}
 
 abbrev pub of_hour : ℕ → Order → Bool
@@ -9,11 +9,10 @@ of_hour hour x = x.hour == hour
 abbrev pub with_serial : ℕ → Order → Bool
 with_serial serial x = x.serial == serial
 
--- the first `count` orders without the one at a place, where one stands: those behind it come one place nearer, and the
--- last of them stays where it was too. Later places stay
-abbrev pub closed_up : ℕ → ℕ → List Order → List Order
-closed_up count at xs =
-    cond (nat_lt at (length (take count xs))) (remove (take count xs) at ++ drop (length (take count xs) - 1) xs) xs
+-- the orders without the one at a place, where one stands: those behind it come one place nearer, and the last of them
+-- stays where it was too
+abbrev pub closed_up : ℕ → List Order → List Order
+closed_up at xs = cond (nat_lt at (length xs)) (remove xs at ++ drop (length xs - 1) xs) xs
 
 -- the list without the first order that passes the test
 abbrev pub without_first : (Order → Bool) → List Order → List Order
@@ -21,8 +20,7 @@ without_first test [] = []
 without_first test (x ∷ xs) = cond (test x) xs (x ∷ without_first test xs)
 
 abbrev pub total_energy : List Order → ℕ
-total_energy [] = 0
-total_energy (x ∷ xs) = x.energy + total_energy xs
+total_energy xs = sum_by (λ x. x.energy) xs
 
 -- the order with so much less energy
 abbrev pub lessened : ℕ → Order → Order

@@ -2,7 +2,7 @@
 ghost use Rattle.std.specs.Prelude.{◌≡◌, ℕ, List, length, filter};
 ghost use Rattle.std.specs.List.{slice_get, find};
 ghost use Rattle.figures.specs.declared.order.Order.{Order};
-ghost use Rattle.sides.specs.Listing.{StaysRanked, sooner, ranked_in, accepted, Untouched};
+ghost use Rattle.sides.specs.Listing.{sooner, ranked_in, accepted, Untouched};
 ghost use Rattle.book.specs.Lists.{of_hour, with_serial, without_first, total_energy};
 ghost use Rattle.book.specs.Meaning.{Sound, put_answer, best, cut_answer, cut_list, other_hours};
 
@@ -10,8 +10,8 @@ use figures::order::Order;
 use figures::refusal::Refusal;
 use sides::side::Side;
 
-/// The resting orders of one side. A book means a capacity, which stays, and a list of orders; a list
-/// by rising hour and then by rank stays so.
+/// The resting orders of one side. A book means a capacity, which stays, and a list of orders by rising
+/// hour and then by rank.
 pub trait Book<S: Side> {
     // The number of places that it was made with.
     ghost capacity: { Self → ℕ };
@@ -22,16 +22,12 @@ pub trait Book<S: Side> {
     // What stands in the places, whether or not it is listed.
     ghost places: { Self → List Order };
 
-    // That every book of this kind is sound, in every state.
-    ghost sound: { (book : Self) → Sound (capacity book) (list book) };
-
     /// Adds an order at its ranked position.
     fn put(&mut self, order: Order) -> Result<(), Refusal>
         ensures answer { result ≡ put_answer (capacity self.old) (list self.old) order }
         ensures list { list self.new ≡ accepted result (ranked_in (sooner S.Rank.Ranking.first) order (list self.old)) (list self.old) }
         ensures untouched { Untouched result (places self.new) (places self.old) }
-        ensures capacity { capacity self.new ≡ capacity self.old }
-        ensures ranked { StaysRanked (sooner S.Rank.Ranking.first) (list self.old) (list self.new) };
+        ensures capacity { capacity self.new ≡ capacity self.old };
 
     /// How many orders rest.
     fn count(&self) -> usize
@@ -58,20 +54,20 @@ pub trait Book<S: Side> {
         ensures answer { result ≡ cut_answer hour energy (list self.old) }
         ensures list { list self.new ≡ accepted result (cut_list hour energy (list self.old)) (list self.old) }
         ensures untouched { Untouched result (places self.new) (places self.old) }
-        ensures capacity { capacity self.new ≡ capacity self.old }
-        ensures ranked { StaysRanked (sooner S.Rank.Ranking.first) (list self.old) (list self.new) };
+        ensures capacity { capacity self.new ≡ capacity self.old };
 
     /// Removes the order with `serial`, and answers it.
     fn withdraw(&mut self, serial: u32) -> Option<Order>
         ensures answer { result ≡ find (with_serial serial) (list self.old) }
         ensures list { list self.new ≡ without_first (with_serial serial) (list self.old) }
-        ensures capacity { capacity self.new ≡ capacity self.old }
-        ensures ranked { StaysRanked (sooner S.Rank.Ranking.first) (list self.old) (list self.new) };
+        ensures capacity { capacity self.new ≡ capacity self.old };
 
     /// Removes the orders of `hour`, and answers their total energy.
     fn drop_hour(&mut self, hour: u32) -> u64
         ensures answer { result ≡ total_energy (filter (of_hour hour) (list self.old)) }
         ensures list { list self.new ≡ other_hours hour (list self.old) }
-        ensures capacity { capacity self.new ≡ capacity self.old }
-        ensures ranked { StaysRanked (sooner S.Rank.Ranking.first) (list self.old) (list self.new) };
+        ensures capacity { capacity self.new ≡ capacity self.old };
+
+    // Every book of this kind is sound, in every state: its list is ranked, among others.
+    ghost sound: { (book : Self) → Sound (sooner S.Rank.Ranking.first) (capacity book) (list book) };
 }

@@ -1,5 +1,5 @@
 // Orders in a slice, found, counted and removed by a criterion.
-ghost use Rattle.std.specs.Prelude.{◌≡◌, not, ◌++◌, length, take, drop, filter};
+ghost use Rattle.std.specs.Prelude.{◌≡◌, not, ◌++◌, length, drop, filter};
 ghost use Rattle.std.specs.List.{slice_get, position, find};
 ghost use Rattle.book.specs.Lists.{closed_up, total_energy};
 
@@ -10,75 +10,58 @@ use figures::order::Order;
 pub fn place_of<C: Criterion>(orders: &[Order], criterion: &C) -> Option<usize>
     ensures { result ≡ position (C.Criterion.passes criterion.now) orders.now }
 {
-    for (i, order) in orders.iter().enumerate() {
-        if criterion.passed_by(order) {
-            return Some(i);
-        }
-    }
-    None
+    orders.iter().position(|order| criterion.passed_by(order))
 }
 
 /// The first order that passes. One pass, up to it.
 pub fn first<C: Criterion>(orders: &[Order], criterion: &C) -> Option<Order>
     ensures { result ≡ find (C.Criterion.passes criterion.now) orders.now }
 {
-    match place_of(orders, criterion) {
-        Some(at) => Some(orders[at]),
-        None => None,
-    }
+    orders
+        .iter()
+        .copied()
+        .find(|order| criterion.passed_by(order))
 }
 
 /// How many orders pass. One pass.
 pub fn count<C: Criterion>(orders: &[Order], criterion: &C) -> usize
     ensures { result ≡ length (filter (C.Criterion.passes criterion.now) orders.now) }
 {
-    let mut count = 0;
-    for order in orders {
-        if criterion.passed_by(order) {
-            count += 1;
-        }
-    }
-    count
+    orders
+        .iter()
+        .filter(|order| criterion.passed_by(order))
+        .count()
 }
 
 /// The energy of the orders that pass. One pass.
 pub fn energy<C: Criterion>(orders: &[Order], criterion: &C) -> u128
     ensures { result ≡ total_energy (filter (C.Criterion.passes criterion.now) orders.now) }
 {
-    let mut energy = 0;
-    for order in orders {
-        if criterion.passed_by(order) {
-            energy += u128::from(order.energy);
-        }
-    }
-    energy
+    orders
+        .iter()
+        .filter(|order| criterion.passed_by(order))
+        .map(|order| u128::from(order.energy))
+        .sum()
 }
 
-/// Removes the order at `at` from the first `count`, and closes the gap. One shift of those behind it.
-pub fn remove(orders: &mut [Order], count: usize, at: usize) -> Option<Order>
-    ensures answer { result ≡ slice_get (take count orders.old) at }
-    ensures after { orders.new ≡ closed_up count at orders.old }
+/// Removes the order at `at`, and closes the gap. One shift of those behind it.
+pub fn remove(orders: &mut [Order], at: usize) -> Option<Order>
+    ensures answer { result ≡ slice_get orders.old at }
+    ensures after { orders.new ≡ closed_up at orders.old }
 {
-    let end = count.min(orders.len());
-    if at >= end {
-        return None;
-    }
-    let removed = orders[at];
-    for i in at..end - 1 {
-        orders[i] = orders[i + 1];
-    }
+    let removed = *orders.get(at)?;
+    orders.copy_within(at + 1.., at);
     Some(removed)
 }
 
-/// Removes those that pass from the first `count`, and answers how many are left, in front of what the
-/// places behind them held. One pass.
-pub fn remove_all<C: Criterion>(orders: &mut [Order], count: usize, criterion: &C) -> usize
-    ensures answer { result ≡ length (filter (λ x. not (C.Criterion.passes criterion.now x)) (take count orders.old)) }
-    ensures after { orders.new ≡ filter (λ x. not (C.Criterion.passes criterion.now x)) (take count orders.old) ++ drop result orders.old }
+/// Removes those that pass, and answers how many are left, in front of what the places behind them held.
+/// One pass, by hand, since a slice has no `retain`.
+pub fn remove_all<C: Criterion>(orders: &mut [Order], criterion: &C) -> usize
+    ensures answer { result ≡ length (filter (λ x. not (C.Criterion.passes criterion.now x)) orders.old) }
+    ensures after { orders.new ≡ filter (λ x. not (C.Criterion.passes criterion.now x)) orders.old ++ drop result orders.old }
 {
-    let end = count.min(orders.len());
     let mut left = 0;
-    for i in 0..end {
+    for i in 0..orders.len() {
         let order = orders[i];
         if !criterion.passed_by(&order) {
             orders[left] = order;

@@ -1,8 +1,8 @@
 -- What a change of the places makes of the orders held in them. The places are xs before and ys after.
-use Rattle.std.proofs.Common.{◌≡◌, ℕ, zero, suc, ◌+◌, ◌-◌, ◌^◌, ◌<◌, ◌≤◌, Bool, true, false, cond, not, eqb, ◌⊎◌, List, [], ◌∷◌, ◌++◌, length, get_or, take, drop, set, Some, None, Ok, Err, filter, Option, Result, sym, refl, ap, ◌∙◌, subst, inl, inr, arith}
+use Rattle.std.proofs.Common.{◌≡◌, ℕ, zero, suc, ◌+◌, ◌-◌, ◌^◌, ◌<◌, ◌≤◌, Bool, true, false, cond, not, eqb, ◌⊎◌, List, [], ◌∷◌, ◌++◌, length, get_or, take, drop, set, Some, None, Ok, Err, filter, Option, Result, sym, refl, ap, ◌∙◌, subst, inl, inr, append_assoc, arith}
 use Rattle.std.specs.List.{prefix_len, remove, slice_get, list_all, position, find}
 use Rattle.std.proofs.lemmas.List.Edits.{length-remove}
-use Rattle.std.proofs.lemmas.List.{take_at, take_all, drop_all, length-take, length-take-le, get_or-take, append-nil, length-set}
+use Rattle.std.proofs.lemmas.List.{take_at, take_all, length-append, take-append-drop, drop_all, length-take, length-take-le, get_or-take, append-nil, length-set}
 use Rattle.std.proofs.lemmas.Option.{slice_get-get_or, slice_get_past}
 use Rattle.std.proofs.lemmas.List.Sums.{length-filter, count_by-le-length}
 use Rattle.std.proofs.lemmas.Bool.{cond_both, cond-true, cond-false, lt-ltb, le-ltb, eq-eqb, ne_eqb, and_from, not_from_false}
@@ -13,18 +13,36 @@ use Rattle.figures.specs.declared.refusal.Reason.{Reason}
 use Rattle.figures.specs.declared.refusal.Reason.TheVariants.{CutTooLarge}
 use Rattle.sides.specs.Ranking.{Ranks}
 use Rattle.sides.specs.Listing.{apart, stands, ranked_in, accepted, room_for, sooner, Ranked, Untouched}
-use Rattle.book.specs.Kept.{each_ranked_in, apart_ranked_in, length_ranked_in}
+use Rattle.book.proofs.Kept.{each_ranked_in, apart_ranked_in, length_ranked_in}
 use Rattle.book.specs.Lists.{without_first, lessened_first, closed_up, lessened, of_hour, total_energy}
 use Rattle.book.specs.Meaning.{energy_in, taking, by_book, put_answer, best, cut_answer, cut_list}
-use Rattle.book.proofs.Places.{first_that_at, without_first_at, lessened_first_at, place_found}
+use Rattle.std.proofs.lemmas.List.Folds.{find_at}
+use Rattle.book.proofs.Places.{without_first_at, lessened_first_at, place_found, place_none}
 use Rattle.book.proofs.Ranked.{ranked_without_first, ranked_lessened_first}
-use Rattle.book.proofs.Sound.{each_filter, each_set, apart_set, figures_lessened, each_get_or, most_energy}
-use Rattle.books.specs.Holding.{Fill, cut_at}
+use Rattle.book.proofs.Sound.{each_filter, each_set, apart_set, figures_checked, figures_lessened, each_get_or, most_energy}
+use Rattle.books.specs.Filling.{Fill}
+use Rattle.books.specs.Holding.{cut_at, order_in}
 
 -- as many places as before, in which other orders stand
-pub refilled : (xs ys new : List Order) (count more : ℕ) → Fill (length xs) count (take count xs) → length ys ≡ length xs → more ≤ length ys → take more ys ≡ new → list_all within_figures new ≡ true → apart new ≡ true → Fill (length ys) more (take more ys)
+pub refilled : (xs ys new : List Order) (count more : ℕ) → Fill count xs → length ys ≡ length xs → more ≤ length ys → take more ys ≡ new → list_all within_figures new ≡ true → apart new ≡ true → Fill more ys
 refilled xs ys new count more fill long room is figures serials =
     (omega (arith, fill.0), omega (arith, fill.1), room, ap (list_all within_figures) is ∙ figures, ap apart is ∙ serials)
+
+-- the places once the first `count` of them, which were lent, hold zs
+length_lent : (xs zs : List Order) (count : ℕ) → length zs ≡ length (take count xs) → length (zs ++ drop count xs) ≡ length xs
+length_lent xs zs count long =
+    length-append zs (drop count xs) ∙ (ap (λ n. n + length (drop count xs)) long ∙ (sym (length-append (take count xs) (drop count xs)) ∙ ap length (take-append-drop count xs)))
+
+pub lent : (xs zs new : List Order) (count more : ℕ) → Fill count xs → length zs ≡ length (take count xs) → more ≤ count → take more (zs ++ drop count xs) ≡ new → list_all within_figures new ≡ true → apart new ≡ true → Fill more (zs ++ drop count xs)
+lent xs zs new count more fill long few is figures serials =
+    let room = fill.2 in
+    let all = length_lent xs zs count long in
+    refilled xs (zs ++ drop count xs) new count more fill all (omega arith) is figures serials
+
+-- what stands in front of the lent places
+pub lent_front : (new behind zs rest : List Order) (left : ℕ) → left ≡ length new → zs ≡ new ++ behind → take left (zs ++ rest) ≡ new
+lent_front new behind zs rest left long is =
+    ap (λ ys. take left (ys ++ rest)) is ∙ (ap (take left) (append_assoc new behind rest) ∙ take_at new (behind ++ rest) left (sym long))
 
 -- what was refused is as it was
 pub as_it_was : {A B E : Type 0} (answer : Result B E) (e : E) (new old : A) → answer ≡ Err e → old ≡ accepted answer new old
@@ -46,14 +64,18 @@ room_is xs count order e room =
     let long : length (take count xs) ≡ count = length-take-le count xs room in
     (grind (arith, nat_tests), grind (arith, nat_tests))
 
-pub put_accepted : (capacity : ℕ) (xs : List Order) (order : Order) → checked_before {A = Unit {0}} order (Ok tt) ≡ Ok tt → room_for capacity xs order ≡ Ok tt → Ok tt ≡ put_answer capacity xs order
-put_accepted capacity xs order checked room = grind (arith, nat_tests)
+-- the checks did not refuse it
+pub put_checked : (order : Order) (answer : Result (Unit {0}) Reason) → answer ≡ checked_before order (Ok tt) → by_book answer ≡ Ok tt → within_figures order ≡ true
+put_checked order answer is went = figures_checked order (sym is ∙ unrefused answer tt went)
 
-pub put_in : (before : Order → Order → Bool) (order : Order) (xs ys : List Order) (count : ℕ) → count < length xs → ys ≡ ranked_in before order (take count xs) ++ drop (count + 1) xs → take (count + 1) ys ≡ ranked_in before order (take count xs)
-put_in before order xs ys count l e =
+-- there was room, and it is put in by rank
+pub put_in : (before : Order → Order → Bool) (order : Order) (xs ys : List Order) (count : ℕ) (answer : Result (Unit {0}) Reason) → count ≤ length xs → answer ≡ room_for (length xs) (take count xs) order → by_book answer ≡ Ok tt → ys ≡ accepted answer (ranked_in before order (take count xs) ++ drop (count + 1) xs) xs → (count < length xs) × (stands order.serial (take count xs) ≡ false) × (take (count + 1) ys ≡ ranked_in before order (take count xs))
+put_in before order xs ys count answer room is went after =
+    let done = unrefused answer tt went in
+    let left = room_is xs count order (sym is ∙ done) room in
     let long : length (ranked_in before order (take count xs)) ≡ count + 1 =
-    length_ranked_in before order (take count xs) ∙ ap (λ n. n + 1) (length-take-le count xs (omega arith)) in
-    ap (take (count + 1)) e ∙ take_at (ranked_in before order (take count xs)) (drop (count + 1) xs) (count + 1) long
+    length_ranked_in before order (take count xs) ∙ ap (λ n. n + 1) (length-take-le count xs room) in
+    (left.0, left.1, ap (take (count + 1)) (after ∙ ap (λ r. accepted r (ranked_in before order (take count xs) ++ drop (count + 1) xs) xs) done) ∙ take_at (ranked_in before order (take count xs)) (drop (count + 1) xs) (count + 1) long)
 
 pub put_figures : (before : Order → Order → Bool) (order : Order) (xs : List Order) → within_figures order ≡ true → list_all within_figures xs ≡ true → list_all within_figures (ranked_in before order xs) ≡ true
 put_figures before order xs one all = each_ranked_in within_figures before order xs ∙ and_from _ _ one all
@@ -79,18 +101,18 @@ slice_get_some [] at y e = let z : ◌≡◌ {A = ℕ} 0 1 = cc in absurd (omega
 slice_get_some (x ∷ xs) zero y e = omega arith
 slice_get_some (x ∷ xs) (suc at) y e = let k = slice_get_some xs at y e in omega arith
 
-pub taken_none : (xs ys : List Order) (count at : ℕ) → None ≡ slice_get (take count xs) at → ys ≡ closed_up count at xs → take count ys ≡ remove (take count xs) at
-taken_none xs ys count at e is =
+-- nothing stands at the place: nothing is removed, and the places are as they were
+pub taken_none : (xs zs : List Order) (count at : ℕ) → None ≡ slice_get (take count xs) at → zs ≡ closed_up at (take count xs) → (zs ++ drop count xs ≡ xs) × (take count xs ≡ remove (take count xs) at)
+taken_none xs zs count at e is =
     let past = slice_get_none (take count xs) at e in
-    ap (take count) (is ∙ cond-false _ _ _ (le-ltb _ _ past)) ∙ sym (removed_past (take count xs) at past)
+    (ap (λ ys. ys ++ drop count xs) (is ∙ cond-false _ _ _ (le-ltb _ _ past)) ∙ take-append-drop count xs, sym (removed_past (take count xs) at past))
 
-pub taken_one : (xs ys : List Order) (count at : ℕ) (y : Order) → count ≤ length xs → Some y ≡ slice_get (take count xs) at → ys ≡ closed_up count at xs → take (count - 1) ys ≡ remove (take count xs) at
-taken_one xs ys count at y room e is =
+pub taken_one : (xs zs : List Order) (count at : ℕ) (y : Order) → count ≤ length xs → Some y ≡ slice_get (take count xs) at → zs ≡ closed_up at (take count xs) → take (count - 1) (zs ++ drop count xs) ≡ remove (take count xs) at
+taken_one xs zs count at y room e is =
     let within = slice_get_some (take count xs) at y e in
     let all : length (take count xs) ≡ count = length-take-le count xs room in
     let less = length-remove (take count xs) at within in
-    let long : length (remove (take count xs) at) ≡ count - 1 = omega arith in
-    ap (take (count - 1)) (is ∙ cond-true _ _ _ (lt-ltb _ _ within)) ∙ take_at (remove (take count xs) at) _ (count - 1) long
+    lent_front (remove (take count xs) at) _ zs (drop count xs) (count - 1) (omega arith) (is ∙ cond-true _ _ _ (lt-ltb _ _ within))
 
 -- cut
 
@@ -111,29 +133,25 @@ pub no_order_at : (xs : List Order) (count at : ℕ) → count ≤ at → None �
 no_order_at xs count at h =
     let long = length-take count xs in sym (slice_get_past (take count xs) at (omega arith))
 
-taking_refused : (energy : ℕ) (order : Option Order) → (energy ≡ 0) ⊎ ((energy ≡ 0 → ⊥) × (energy_in order < energy)) → by_book (Err (CutTooLarge energy)) ≡ taking energy order
-taking_refused energy order (inl e) = grind (arith, nat_tests)
-taking_refused energy order (inr h) = let l = h.1 in grind (arith, nat_tests)
+-- nothing can be taken: no energy is asked for, or more than the order has
+pub taking_refused : (energy : ℕ) (order : Option Order) → (1 ≤ energy → energy_in order < energy) → by_book (Err (CutTooLarge energy)) ≡ taking energy order
+taking_refused energy order h = grind (arith, nat_tests)
 
-pub cut_refused : (xs : List Order) (count at energy : ℕ) → at < length (take count xs) → (energy ≡ 0) ⊎ ((energy ≡ 0 → ⊥) × ((get_or xs at blank).energy < energy)) → by_book (Err (CutTooLarge energy)) ≡ taking energy (slice_get (take count xs) at)
-cut_refused xs count at energy l h =
-    taking_refused energy (Some (get_or xs at blank)) h ∙ ap (taking energy) (sym (order_at xs count at l))
-
-taking_accepted : (energy : ℕ) (order : Option Order) → (energy ≡ 0 → ⊥) → energy ≤ energy_in order → Ok tt ≡ taking energy order
+taking_accepted : (energy : ℕ) (order : Option Order) → 1 ≤ energy → energy ≤ energy_in order → Ok tt ≡ taking energy order
 taking_accepted energy order n l = grind (arith, nat_tests)
 
-pub cut_accepted : (xs : List Order) (count at energy : ℕ) → at < length (take count xs) → (energy ≡ 0 → ⊥) → energy ≤ (get_or xs at blank).energy → Ok tt ≡ taking energy (slice_get (take count xs) at)
+pub cut_accepted : (xs : List Order) (count at energy : ℕ) → at < length (take count xs) → 1 ≤ energy → energy ≤ (get_or xs at blank).energy → Ok tt ≡ taking energy (slice_get (take count xs) at)
 cut_accepted xs count at energy l n h =
     taking_accepted energy (Some (get_or xs at blank)) n h ∙ ap (taking energy) (sym (order_at xs count at l))
 
 -- all of the order's energy is taken
-pub cut_whole : (xs : List Order) (count at energy : ℕ) → at < length (take count xs) → energy ≡ (get_or xs at blank).energy → remove (take count xs) at ≡ cut_at at energy (take count xs)
+pub cut_whole : (xs : List Order) (count at energy : ℕ) → at < length (take count xs) → energy ≡ (get_or xs at blank).energy → remove (take count xs) at ≡ cut_at (Some at) energy (take count xs)
 cut_whole xs count at energy l e =
     let one : energy_in (slice_get (take count xs) at) ≡ energy = ap energy_in (order_at xs count at l) ∙ sym e in
     sym (cond-true _ _ _ (eq-eqb _ _ one))
 
 -- part of it is taken
-pub cut_part : (xs : List Order) (count at energy : ℕ) → at < length (take count xs) → (energy ≡ (get_or xs at blank).energy → ⊥) → take count (set xs at (lessened energy (get_or xs at blank))) ≡ cut_at at energy (take count xs)
+pub cut_part : (xs : List Order) (count at energy : ℕ) → at < length (take count xs) → (energy ≡ (get_or xs at blank).energy → ⊥) → take count (set xs at (lessened energy (get_or xs at blank))) ≡ cut_at (Some at) energy (take count xs)
 cut_part xs count at energy l n =
     let long = length-take count xs in
     let here : get_or (take count xs) at blank ≡ get_or xs at blank = get_or-take count xs at blank (omega arith) in
@@ -141,7 +159,7 @@ cut_part xs count at energy l n =
     λ e. n (sym e ∙ ap energy_in (order_at xs count at l)) in
     set_front xs count at _ (omega arith) ∙ (ap (λ y. set (take count xs) at (lessened energy y)) (sym here) ∙ sym (cond-false _ _ _ (ne_eqb _ _ other)))
 
-pub part_filled : (xs : List Order) (count at energy : ℕ) → Fill (length xs) count (take count xs) → at < length (take count xs) → energy < (get_or xs at blank).energy → Fill (length (set xs at (lessened energy (get_or xs at blank)))) count (take count (set xs at (lessened energy (get_or xs at blank))))
+pub part_filled : (xs : List Order) (count at energy : ℕ) → Fill count xs → at < length (take count xs) → energy < (get_or xs at blank).energy → Fill count (set xs at (lessened energy (get_or xs at blank)))
 part_filled xs count at energy fill l less =
     let long = length-take count xs in
     let here : get_or (take count xs) at blank ≡ get_or xs at blank = get_or-take count xs at blank (omega arith) in
@@ -154,19 +172,15 @@ part_filled xs count at energy fill l less =
 length_kept_le : (test : Order → Bool) (xs : List Order) → length (filter test xs) ≤ length xs
 length_kept_le test xs = let count = length-filter test xs in omega (arith, count_by-le-length test xs)
 
--- what a filter leaves of the first `count` has room where they stood
-pub room_for_kept : (test : Order → Bool) (xs ys : List Order) (count left : ℕ) → left ≡ length (filter test (take count xs)) → length ys ≡ length xs → left ≤ length ys
-room_for_kept test xs ys count left e long =
+pub kept_room : (test : Order → Bool) (xs : List Order) (count left : ℕ) → left ≡ length (filter test (take count xs)) → left ≤ count
+kept_room test xs count left e =
     let few = length_kept_le test (take count xs) in
     let taken = length-take count xs in
     omega arith
 
-pub kept_in_front : (new rest ys : List Order) (left : ℕ) → left ≡ length new → ys ≡ new ++ rest → take left ys ≡ new
-kept_in_front new rest ys left long is = ap (take left) is ∙ take_at new rest left (sym long)
-
 -- the energy that leaves fits 64 bits
-pub lapsed_fits : (hour : ℕ) (xs : List Order) (places count : ℕ) → Fill places count (take count xs) → length xs ≡ places → total_energy (filter (of_hour hour) (take count xs)) < 2 ^ 64
-lapsed_fits hour xs places count fill long =
+pub lapsed_fits : (hour : ℕ) (xs : List Order) (count : ℕ) → Fill count xs → total_energy (filter (of_hour hour) (take count xs)) < 2 ^ 64
+lapsed_fits hour xs count fill =
     let figures = each_filter within_figures (of_hour hour) (take count xs) fill.3 in
     let most = most_energy (filter (of_hour hour) (take count xs)) figures in
     let kept = length_kept_le (of_hour hour) (take count xs) in
@@ -182,27 +196,32 @@ first_taken test xs at e =
 
 pub none_taken : (test : Order → Bool) (xs : List Order) → None ≡ find test xs → xs ≡ without_first test xs
 none_taken test xs e =
-    let past = slice_get_none xs (prefix_len (λ x. not (test x)) xs) (e ∙ first_that_at test xs) in
+    let past = slice_get_none xs (prefix_len (λ x. not (test x)) xs) (e ∙ find_at test xs) in
     sym (without_first_at test xs ∙ removed_past xs _ past)
 
-pub first_order : (test : Order → Bool) (xs : List Order) (at : ℕ) → Some at ≡ position test xs → slice_get xs at ≡ find test xs
-first_order test xs at e = ap (slice_get xs) (place_found test xs at e).0 ∙ sym (first_that_at test xs)
+pub first_found : (test : Order → Bool) (xs : List Order) (place : Option ℕ) → place ≡ position test xs → order_in xs place ≡ find test xs
+first_found test xs None e = place_none test xs e
+first_found test xs (Some at) e = ap (slice_get xs) (place_found test xs at e).0 ∙ sym (find_at test xs)
+
+none_lessened : (test : Order → Bool) (energy : ℕ) (xs : List Order) → None ≡ find test xs → xs ≡ lessened_first test energy xs
+none_lessened test energy [] e = refl
+none_lessened test energy (x ∷ xs) e = let k = none_lessened test energy xs in grind (arith, nat_tests)
+
+-- no order of the hour: a cut leaves the list as it is
+pub none_cut : (hour energy : ℕ) (xs : List Order) → None ≡ best hour xs → xs ≡ cut_list hour energy xs
+none_cut hour energy xs e =
+    cond_both (eqb (energy_in (best hour xs)) energy) (without_first (of_hour hour) xs) (lessened_first (of_hour hour) energy xs) (λ ys. xs ≡ ys) (λ _. none_taken (of_hour hour) xs e) (λ _. none_lessened (of_hour hour) energy xs e)
 
 -- a cut at the place of an hour's best order is a cut of that order
-pub first_cut : (hour energy : ℕ) (xs : List Order) (at : ℕ) → Some at ≡ position (of_hour hour) xs → cut_at at energy xs ≡ cut_list hour energy xs
-first_cut hour energy xs at e =
+pub first_cut : (hour energy : ℕ) (xs : List Order) (place : Option ℕ) → place ≡ position (of_hour hour) xs → cut_at place energy xs ≡ cut_list hour energy xs
+first_cut hour energy xs None e = none_cut hour energy xs (place_none (of_hour hour) xs e)
+first_cut hour energy xs (Some at) e =
     let is : at ≡ prefix_len (λ x. not (of_hour hour x)) xs = (place_found (of_hour hour) xs at e).0 in
-    let best : slice_get xs at ≡ find (of_hour hour) xs = first_order (of_hour hour) xs at e in
+    let best : slice_get xs at ≡ find (of_hour hour) xs = first_found (of_hour hour) xs (Some at) e in
     let whole : remove xs at ≡ without_first (of_hour hour) xs = first_taken (of_hour hour) xs at e in
     let part : set xs at (lessened energy (get_or xs at blank)) ≡ lessened_first (of_hour hour) energy xs =
     ap (λ place. set xs place (lessened energy (get_or xs place blank))) is ∙ sym (lessened_first_at (of_hour hour) energy xs blank) in
     ap (λ order. cond (eqb (energy_in order) energy) (remove xs at) (set xs at (lessened energy (get_or xs at blank)))) best ∙ (ap (λ ys. cond (eqb (energy_in (find (of_hour hour) xs)) energy) ys (set xs at (lessened energy (get_or xs at blank)))) whole ∙ ap (λ ys. cond (eqb (energy_in (find (of_hour hour) xs)) energy) (without_first (of_hour hour) xs) ys) part)
-
--- no order of the hour: nothing can be taken
-pub none_cut : (hour energy : ℕ) (xs : List Order) → None ≡ find (of_hour hour) xs → by_book (Err (CutTooLarge energy)) ≡ cut_answer hour energy xs
-none_cut hour energy xs e = nothing energy ∙ ap (taking energy) e where
-  nothing : (energy : ℕ) → by_book (Err (CutTooLarge energy)) ≡ taking energy None
-  nothing energy = grind (arith, nat_tests)
 
 pub ranked_cut : (first : Ranks) (hour energy : ℕ) (xs : List Order) → Ranked (sooner first) xs → Ranked (sooner first) (cut_list hour energy xs)
 ranked_cut first hour energy xs ranked =

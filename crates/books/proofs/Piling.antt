@@ -1,5 +1,6 @@
 -- What a change of a pile's places makes of its list. The orders that stand in them are xs before and ys after.
-use Rattle.std.proofs.Common.{◌≡◌, ℕ, suc, ◌+◌, ◌<◌, ◌≤◌, Bool, true, false, cond, not, ◌&&◌, ◌||◌, eqb, ◌⊎◌, List, [], ◌∷◌, ◌++◌, length, get_or, take, drop, set, is_some, Some, None, Ok, Err, Result, sym, refl, ap, ◌∙◌, inl, inr, add-one, arith}
+use Rattle.std.proofs.Common.{◌≡◌, ℕ, suc, ◌+◌, ◌<◌, ◌≤◌, Bool, true, false, cond, not, ◌&&◌, ◌||◌, eqb, ◌⊎◌, List, [], ◌∷◌, ◌++◌, length, get_or, take, drop, set, is_some, Some, None, Ok, Err, Option, Result, sym, refl, ap, ◌∙◌, inl, inr, add-one, arith}
+use Rattle.std.specs.Option.{IfSome}
 use Rattle.std.specs.List.{prefix_len, remove, slice_get, list_all, find, position}
 use Rattle.std.proofs.lemmas.List.{take-append-drop, drop_more, set_split, append-nil, take_more_set}
 use Rattle.std.proofs.lemmas.Option.{slice_get-get_or, slice_get_past}
@@ -12,33 +13,15 @@ use Rattle.sides.specs.Listing.{accepted, apart, ranked_in, room_for, sooner, st
 use Rattle.sides.specs.Ranking.{Ranks}
 use Rattle.book.specs.Lists.{lessened, lessened_first, of_hour, with_serial, without_first}
 use Rattle.book.specs.Meaning.{best, cut_list, energy_in, put_answer}
-use Rattle.book.proofs.Places.{first_that_at, without_first_at, place_none, found_at}
+use Rattle.std.proofs.lemmas.List.Folds.{find_at}
+use Rattle.book.proofs.Places.{without_first_at}
 use Rattle.book.proofs.Ranked.{ListingLaws}
-use Rattle.books.specs.Holding.{cut_at}
+use Rattle.books.specs.Holding.{cut_at, order_in}
 use Rattle.books.specs.Sorting.{sorted, length_sorted, stands_sorted}
-use Rattle.books.proofs.Holding.{none_taken, slice_get_none}
+use Rattle.books.proofs.Holding.{none_cut, none_taken, slice_get_none}
 use Rattle.books.proofs.Sorting.{sort_pick, without_first_sorted, lessened_first_sorted, found_sorted, apart_pick}
 
 -- put
-
-stands_first : (serial : ℕ) (xs : List Order) → stands serial xs ≡ is_some (find (with_serial serial) xs)
-stands_first serial [] = refl
-stands_first serial (x ∷ xs) =
-    elim (eqb x.serial serial) as (λ v. (v || stands serial xs) ≡ is_some (cond v (Some x) (find (with_serial serial) xs))) [ true ↦ refl | false ↦ stands_first serial xs ]
-
-pub stands_found : (serial : ℕ) (xs : List Order) (at : ℕ) → Some at ≡ position (with_serial serial) xs → stands serial xs ≡ true
-stands_found serial xs at e =
-    stands_first serial xs ∙ ap is_some (sym (found_at (with_serial serial) xs at blank e))
-
-pub stands_nowhere : (serial : ℕ) (xs : List Order) → None ≡ position (with_serial serial) xs → stands serial xs ≡ false
-stands_nowhere serial xs e =
-    stands_first serial xs ∙ ap is_some (sym (place_none (with_serial serial) xs e))
-
-pub room_refused : (capacity : ℕ) (xs : List Order) (order : Order) → length xs < capacity → stands order.serial xs ≡ true → Err (SerialStands order.serial) ≡ room_for capacity xs order
-room_refused capacity xs order l e = grind (arith, nat_tests)
-
-pub room_given : (capacity : ℕ) (xs : List Order) (order : Order) → length xs < capacity → stands order.serial xs ≡ false → Ok tt ≡ room_for capacity xs order
-room_given capacity xs order l e = grind (arith, nat_tests)
 
 pub put_behind : (order : Order) (xs : List Order) (count : ℕ) → count < length xs → take (count + 1) (set xs count order) ≡ take count xs ++ order ∷ []
 put_behind order xs count l = take_more_set xs count order l
@@ -80,8 +63,10 @@ lessened_sorted first laws test energy xs at h l e =
     let is = split_at xs at l in
     ap (sorted (sooner first)) (set_split xs at _ l) ∙ sym (ap (λ ys. lessened_first test energy (sorted (sooner first) ys)) is ∙ lessened_first_sorted first laws test energy (take at xs) (drop (suc at) xs) (get_or xs at blank) (ap apart (sym is) ∙ h) (ap (λ ys. find test (sorted (sooner first) ys)) (sym is) ∙ e))
 
-pub cut_sorted : (first : Ranks) → ListingLaws (sooner first) → (hour energy : ℕ) (xs : List Order) (at : ℕ) → apart xs ≡ true → at < length xs → slice_get xs at ≡ best hour (sorted (sooner first) xs) → sorted (sooner first) (cut_at at energy xs) ≡ cut_list hour energy (sorted (sooner first) xs)
-cut_sorted first laws hour energy xs at h l e =
+-- a cut at the place of the order that is listed first of an hour is a cut of that order
+pub cut_sorted : (first : Ranks) → ListingLaws (sooner first) → (hour energy : ℕ) (xs : List Order) (place : Option ℕ) → apart xs ≡ true → IfSome place (λ at. at < length xs) → order_in xs place ≡ best hour (sorted (sooner first) xs) → sorted (sooner first) (cut_at place energy xs) ≡ cut_list hour energy (sorted (sooner first) xs)
+cut_sorted first laws hour energy xs None h l e = none_cut hour energy (sorted (sooner first) xs) e
+cut_sorted first laws hour energy xs (Some at) h l e =
     let found : best hour (sorted (sooner first) xs) ≡ Some (get_or xs at blank) = sym e ∙ slice_get-get_or xs at blank l in
     let whole = taken_sorted (sooner first) laws (of_hour hour) xs at h l found in
     let part = lessened_sorted first laws (of_hour hour) energy xs at h l found in
@@ -100,10 +85,10 @@ withdrawn_sorted before laws serial xs h = by (cases_lt (prefix_len (λ x. not (
   by : ((prefix_len (λ x. not (with_serial serial x)) xs) < length xs) ⊎ (length xs ≤ (prefix_len (λ x. not (with_serial serial x)) xs)) → sorted before (without_first (with_serial serial) xs) ≡ without_first (with_serial serial) (sorted before xs)
   by (inl l) =
       let found : find (with_serial serial) (sorted before xs) ≡ Some (get_or xs (prefix_len (λ x. not (with_serial serial x)) xs) blank) =
-      found_sorted before serial xs h ∙ (first_that_at (with_serial serial) xs ∙ slice_get-get_or xs (prefix_len (λ x. not (with_serial serial x)) xs) blank l) in
+      found_sorted before serial xs h ∙ (find_at (with_serial serial) xs ∙ slice_get-get_or xs (prefix_len (λ x. not (with_serial serial x)) xs) blank l) in
       ap (sorted before) (without_first_at (with_serial serial) xs) ∙ taken_sorted before laws (with_serial serial) xs (prefix_len (λ x. not (with_serial serial x)) xs) h l found
   by (inr l) =
-      let none : find (with_serial serial) xs ≡ None = first_that_at (with_serial serial) xs ∙ slice_get_past xs (prefix_len (λ x. not (with_serial serial x)) xs) l in
+      let none : find (with_serial serial) xs ≡ None = find_at (with_serial serial) xs ∙ slice_get_past xs (prefix_len (λ x. not (with_serial serial x)) xs) l in
       ap (sorted before) (sym (none_taken (with_serial serial) xs (sym none))) ∙ none_taken (with_serial serial) (sorted before xs) (sym (found_sorted before serial xs h ∙ none))
 
 -- position

@@ -1,7 +1,9 @@
 -- What sorting keeps, and how a change of the pile shows in its sorted list.
-use Rattle.std.proofs.Common.{◌≡◌, ℕ, zero, suc, ◌+◌, Bool, true, false, cond, not, ◌&&◌, ◌||◌, eqb, List, [], ◌∷◌, ◌++◌, length, Some, filter, sym, refl, ◌∙◌, add-one, arith}
+use Rattle.std.proofs.Common.{◌≡◌, ℕ, zero, suc, ◌+◌, Bool, true, false, cond, not, ◌&&◌, ◌||◌, eqb, List, [], ◌∷◌, ◌++◌, length, Some, None, Option, filter, sym, refl, ap, subst, ◌≤◌, ◌∙◌, add-one, arith}
 use Rattle.std.specs.List.{slice_get, list_all, find}
-use Rattle.std.proofs.lemmas.List.{append-nil}
+use Rattle.std.proofs.lemmas.List.Recursion.{is_sum_by}
+use Rattle.std.proofs.lemmas.List.{append-nil, length-take}
+use Rattle.figures.specs.Orders.{within_figures}
 use Rattle.std.proofs.lemmas.Bool.{and_parts, eqb-false, not-true, or_parts}
 use Rattle.std.proofs.lemmas.Bool.Decides.{nat_tests}
 use Rattle.figures.specs.declared.order.Order.{Order}
@@ -10,8 +12,17 @@ use Rattle.sides.specs.Listing.{Ranked, apart, ranked_in, sooner, stands}
 use Rattle.book.specs.Lists.{lessened, lessened_first, total_energy, with_serial, without_first}
 use Rattle.book.proofs.Ranked.{ListingLaws, ranked_put}
 use Rattle.book.proofs.Sound.{each_filter}
-use Rattle.books.specs.Choosing.{soonest_of}
-use Rattle.books.specs.Sorting.{sorted, stands_sorted}
+use Rattle.book.specs.Meaning.{Sound}
+use Rattle.book.proofs.Kept.{each_ranked_in, stands_ranked_in, apart_ranked_in, length_ranked_in}
+use Rattle.books.specs.Filling.{Fill}
+use Rattle.books.specs.Holding.{held, size}
+use Rattle.books.specs.declared.places.Places.{Places}
+use Rattle.books.specs.Sorting.{sorted, stands_sorted, sorted_ranked}
+
+-- of the one found before and another order, which is listed first
+abbrev pub soonest_of : (Order → Order → Bool) → Option Order → Order → Option Order
+soonest_of before None x = Some x
+soonest_of before (Some z) x = cond (before z x) (Some z) (Some x)
 
 stands_pick : (serial : ℕ) (f k : List Order) (y : Order) → stands serial (f ++ y ∷ k) ≡ (eqb y.serial serial || stands serial (f ++ k))
 stands_pick serial [] k y = refl
@@ -29,7 +40,7 @@ picked_apart : (f k : List Order) (y : Order) → apart (f ++ y ∷ k) ≡ true 
 picked_apart f k y h = let p = apart_pick f k y in grind (arith, nat_tests)
 
 -- an order that was found stands there
-found_stands : (test : Order → Bool) (xs : List Order) (y : Order) → find test xs ≡ Some y → stands y.serial xs ≡ true
+pub found_stands : (test : Order → Bool) (xs : List Order) (y : Order) → find test xs ≡ Some y → stands y.serial xs ≡ true
 found_stands test [] y e = cc
 found_stands test (x ∷ xs) y e = let h = found_stands test xs y in grind (arith, nat_tests)
 
@@ -71,16 +82,28 @@ count_sorted before test (x ∷ xs) =
     let h = count_sorted before test xs in
     grind (arith, nat_tests)
 
-energy_put : (before : Order → Order → Bool) (test : Order → Bool) (x : Order) (xs : List Order) → total_energy (filter test (ranked_in before x xs)) ≡ total_energy (filter test (x ∷ xs))
-energy_put before test x [] = refl
-energy_put before test x (y ∷ ys) = let h = energy_put before test x ys in grind (arith, nat_tests)
+-- the total energy, from the first order on
+abbrev added : List Order → ℕ
+added [] = 0
+added (x ∷ xs) = x.energy + added xs
+
+added_is : (xs : List Order) → added xs ≡ total_energy xs
+added_is xs = is_sum_by added (λ x. x.energy) refl (λ x xs. refl) xs
+
+added_put : (before : Order → Order → Bool) (test : Order → Bool) (x : Order) (xs : List Order) → added (filter test (ranked_in before x xs)) ≡ added (filter test (x ∷ xs))
+added_put before test x [] = refl
+added_put before test x (y ∷ ys) = let h = added_put before test x ys in grind (arith, nat_tests)
+
+added_sorted : (before : Order → Order → Bool) (test : Order → Bool) (xs : List Order) → added (filter test (sorted before xs)) ≡ added (filter test xs)
+added_sorted before test [] = refl
+added_sorted before test (x ∷ xs) =
+    let k = added_put before test x (sorted before xs) in
+    let h = added_sorted before test xs in
+    grind (arith, nat_tests)
 
 pub energy_sorted : (before : Order → Order → Bool) (test : Order → Bool) (xs : List Order) → total_energy (filter test (sorted before xs)) ≡ total_energy (filter test xs)
-energy_sorted before test [] = refl
-energy_sorted before test (x ∷ xs) =
-    let k = energy_put before test x (sorted before xs) in
-    let h = energy_sorted before test xs in
-    grind (arith, nat_tests)
+energy_sorted before test xs =
+    sym (added_is (filter test (sorted before xs))) ∙ (added_sorted before test xs ∙ added_is (filter test xs))
 
 pub slice_get_first : (xs : List Order) → slice_get xs 0 ≡ find (λ _. true) xs
 slice_get_first [] = refl
@@ -96,12 +119,6 @@ each_nth test (x ∷ xs) zero y h e = grind (arith, nat_tests)
 each_nth test (x ∷ xs) (suc n) y h e = each_nth test xs n y (and_parts (test x) (list_all test xs) h).1 e
 
 module _ (before : Order → Order → Bool) (laws : ListingLaws before) where
-  pub sorted_ranked : (xs : List Order) → apart xs ≡ true → Ranked before (sorted before xs)
-  sorted_ranked [] h = tt
-  sorted_ranked (x ∷ xs) h =
-      let p = and_parts (not (stands x.serial xs)) (apart xs) h in
-      ranked_put before laws x (sorted before xs) (stands_sorted x.serial before xs ∙ not-true (stands x.serial xs) p.0) (sorted_ranked xs p.1)
-
   -- two orders are put in either way round
   pub swap_in : (a b : Order) (xs : List Order) → (a.serial ≡ b.serial → ⊥) → ranked_in before a (ranked_in before b xs) ≡ ranked_in before b (ranked_in before a xs)
   swap_in a b [] n =
@@ -148,7 +165,7 @@ module _ (before : Order → Order → Bool) (laws : ListingLaws before) where
   sorted_filter test [] h = refl
   sorted_filter test (x ∷ xs) h =
       let p = and_parts (not (stands x.serial xs)) (apart xs) h in
-      let k = kept_ranked_in test x (sorted before xs) (sorted_ranked xs p.1) in
+      let k = kept_ranked_in test x (sorted before xs) (sorted_ranked before laws xs p.1) in
       let i = sorted_filter test xs p.1 in
       grind (arith, nat_tests)
 
@@ -170,7 +187,7 @@ module _ (before : Order → Order → Bool) (laws : ListingLaws before) where
       let s = sort_pick xs [] x h in
       let n = append-nil xs in
       let a = rw n at (and_parts (not (stands x.serial (xs ++ []))) (apart (xs ++ [])) (sym (apart_pick xs [] x) ∙ h)).1 in
-      let k = first_ranked_in test x (sorted before xs) (sorted_ranked xs a) in
+      let k = first_ranked_in test x (sorted before xs) (sorted_ranked before laws xs a) in
       rw (s, n) k
 
   pub without_first_sorted : (test : Order → Bool) (f k : List Order) (y : Order) → apart (f ++ y ∷ k) ≡ true → find test (sorted before (f ++ y ∷ k)) ≡ Some y → without_first test (sorted before (f ++ y ∷ k)) ≡ sorted before (f ++ k)

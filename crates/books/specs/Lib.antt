@@ -1,3 +1,3 @@
-pub mod Choosing
+pub mod Filling
 pub mod Holding
 pub mod Sorting

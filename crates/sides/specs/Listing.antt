@@ -1,6 +1,8 @@
 -- The order in which a book lists: by rising hour, and within an hour by rank.
 use Rattle.std.specs.Prelude.{◌≡◌, ℕ, Bool, true, cond, not, ◌&&◌, ◌||◌, List, [], ◌∷◌, length, Some, None, Ok, Err, Option, Result, ◌==◌, nat_le, nat_lt}
 use Rattle.std.specs.List.{list_all, list_any, prefix_len}
+use Rattle.std.specs.Coded.{×_prop, Unit-prop}
+use Rattle.std.proofs.Math.Bool.{Bool-set}
 use Rattle.figures.specs.Bounds.{refuse_if}
 use Rattle.figures.specs.declared.order.Order.{Order}
 use Rattle.figures.specs.declared.refusal.Reason.{Reason}
@@ -25,6 +27,11 @@ apart (x ∷ xs) = not (stands x.serial xs) && apart xs
 abbrev pub Ranked : (Order → Order → Bool) → List Order → Type 0
 Ranked before [] = Unit {0}
 Ranked before (x ∷ xs) = (list_all (before x) xs ≡ true) × Ranked before xs
+
+-- there is one proof of it at the most, as the field of a struct has to have
+pub Ranked_prop : (before : Order → Order → Bool) (xs : List Order) → IsProp (Ranked before xs)
+Ranked_prop before [] = Unit-prop
+Ranked_prop before (x ∷ xs) = ×_prop (Bool-set (list_all (before x) xs) true) (Ranked_prop before xs)
 
 -- a ranked list stays ranked
 abbrev pub StaysRanked : (Order → Order → Bool) → List Order → List Order → Type 0

@@ -1,56 +1,81 @@
-// Which order of a pile is listed first.
-ghost use Rattle.std.specs.Prelude.{◌≡◌, ◌<◌, true, length, slice_index_or};
+// Which order of a pile is listed first, and which at a position.
+ghost use Rattle.std.specs.Prelude.{◌≡◌, ◌<◌, true, length, IfSome};
 ghost use Rattle.std.specs.List.{slice_get, find};
-ghost use Rattle.figures.specs.Orders.{blank};
-ghost use Rattle.sides.specs.Listing.{sooner, apart};
-ghost use Rattle.books.specs.Choosing.{sought, order_in, Within, soonest_of};
+ghost use Rattle.sides.specs.Listing.{sooner};
+ghost use Rattle.books.specs.Holding.{held, order_in};
 ghost use Rattle.books.specs.Sorting.{sorted};
 
-use crate::pile::among::Among;
+use crate::places::Places;
+use book::criterion::{Criterion, WithSerial};
+use book::slices::place_of;
 use figures::order::Order;
 use sides::ranking::Ranking;
 use sides::slices::is_sooner;
+use std::marker::PhantomData;
 
-// The place of the order that is listed first of those that are sought. One pass.
-pub(super) fn soonest<R: Ranking>(orders: &[Order], among: &Among) -> Option<usize>
-    requires { apart orders.now ≡ true }
-    ensures within { Within (length orders.now) result }
-    ensures first { order_in orders.now result ≡ find (sought R.Ranking.first among.now) (sorted (sooner R.Ranking.first) orders.now) }
-{
-    let mut found = None;
-    for (i, order) in orders.iter().enumerate() {
-        if is_sought::<R>(among, order) {
-            found = Some(sooner_of::<R>(orders, found, i));
-        }
-    }
-    found
-}
+/// All orders.
+#[derive(Drop)]
+struct Every;
 
-fn is_sought<R: Ranking>(among: &Among, order: &Order) -> bool
-    ensures { result ≡ sought R.Ranking.first among.now order.now }
-{
-    match among {
-        Among::All => true,
-        Among::OfHour(hour) => order.hour == *hour,
-        Among::Behind(other) => is_sooner::<R>(other, order),
+impl Criterion for Every {
+    ghost passes = { λ _ _. true };
+
+    fn passed_by(&self, _order: &Order) -> bool {
+        true
     }
 }
 
-// The place of the one of two orders that is listed first.
-fn sooner_of<R: Ranking>(orders: &[Order], best: Option<usize>, other: usize) -> usize
-    requires best { Within (length orders.now) best }
-    requires other { other < length orders.now }
-    ensures within { result < length orders.now }
-    ensures first { slice_get orders.now result ≡ soonest_of (sooner R.Ranking.first) (order_in orders.now best) (slice_index_or orders.now other blank) }
-{
-    match best {
-        Some(place) => {
-            if is_sooner::<R>(&orders[place], &orders[other]) {
-                place
+/// The orders that are listed behind one.
+#[derive(Drop)]
+struct Behind<R> {
+    order: Order,
+    rank: PhantomData<R>,
+}
+
+impl<R: Ranking> Criterion for Behind<R> {
+    ghost passes = { λ behind. sooner R.Ranking.first behind.order };
+
+    fn passed_by(&self, order: &Order) -> bool {
+        is_sooner::<R>(&self.order, order)
+    }
+}
+
+impl Places<'_> {
+    /// The order that is listed first of those that pass. One pass.
+    pub(super) fn first_among<R: Ranking, C: Criterion>(&self, criterion: &C) -> Option<Order>
+        ensures { result ≡ find (C.Criterion.passes criterion.now) (sorted (sooner R.Ranking.first) (held self.now)) }
+    {
+        self.held()
+            .iter()
+            .copied()
+            .filter(|order| criterion.passed_by(order))
+            .reduce(|best, other| if is_sooner::<R>(&best, &other) {
+                best
             } else {
                 other
-            }
+            })
+    }
+
+    /// The place of the order that is listed first of those that pass. A pass, and another up to the place.
+    pub(super) fn soonest<R: Ranking, C: Criterion>(&self, criterion: &C) -> Option<usize>
+        ensures within { IfSome result (λ place. place < length (held self.now)) }
+        ensures first { order_in (held self.now) result ≡ find (C.Criterion.passes criterion.now) (sorted (sooner R.Ranking.first) (held self.now)) }
+    {
+        let first = self.first_among::<R, C>(criterion)?;
+        place_of(self.held(), &WithSerial(first.serial))
+    }
+
+    /// The order that is listed at `position`: the first, and then as often the one behind it.
+    pub(super) fn listed_at<R: Ranking>(&self, position: usize) -> Option<Order>
+        ensures { result ≡ slice_get (sorted (sooner R.Ranking.first) (held self.now)) position }
+    {
+        let mut found = self.first_among::<R, Every>(&Every);
+        for _passed in 0..position {
+            found = self.first_among::<R, Behind<R>>(&Behind {
+                order: found?,
+                rank: PhantomData,
+            });
         }
-        None => other,
+        found
     }
 }

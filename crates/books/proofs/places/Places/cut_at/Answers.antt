@@ -1,34 +1,37 @@
-use Rattle.std.proofs.Common.{◌∙◌, arith, rules}
-use Rattle.std.proofs.lemmas.List.{length-set}
-use Rattle.books.proofs.Holding.{as_it_was, not_touched, cut_refused, cut_accepted, cut_whole, cut_part, part_filled}
+use Rattle.std.proofs.Common.{◌≡◌, ◌<◌, ◌≤◌, length, take, Some, Ok, get_or, sym, ◌∙◌, ap, subst, arith, rules}
+use Rattle.std.specs.Option.{IfSome}
+use Rattle.figures.specs.Orders.{blank}
+use Rattle.book.specs.Meaning.{taking}
+use Rattle.books.specs.Holding.{held, order_in, cut_at}
+use Rattle.books.proofs.Holding.{cut_accepted, cut_whole, cut_part, part_filled}
 use Rattle.books.proofs.places.Places.cut_at.Goals as goal
 
-pub returns-then-energy-eq0 : goal.returns-then-energy-eq0
-returns-then-energy-eq0 c =
-    record {
-      filled = search rules;
-      size = search rules;
-      answer = c.by_book.ensures ∙ cut_refused c.args.self.now.orders.now c.args.self.now.count c.args.at c.args.energy c.requires.within c.then-energy-eq0.either;
-      list = as_it_was _ _ _ _ c.by_book.ensures;
-      untouched = not_touched _ _ _ c.by_book.ensures;
-    }
+pub invariant_of-self : goal.invariant_of-self
+invariant_of-self c =
+    let within : c.in-Some.at < length (held c.args.self.now) = subst (λ place. IfSome place (λ at. at < length (held c.args.self.now))) c.in-Some.is c.requires in
+    let most : c.args.energy ≤ (get_or c.args.self.now.orders.now c.in-Some.at blank).energy = search rules in
+    record { filled = part_filled c.args.self.now.orders.now c.args.self.now.count c.in-Some.at c.args.energy c.args.self.now.filled within (omega arith) }
 
-pub returns-then-energy-left-2 : goal.returns-then-energy-left-2
-returns-then-energy-left-2 c =
-    record {
-      filled = c.take_at.ensures.filled;
-      size = c.take_at.ensures.size;
-      answer = cut_accepted c.args.self.now.orders.now c.args.self.now.count c.args.at c.args.energy c.requires.within c.if-energy-eq0.false c.if-energy-left.false;
-      list = c.take_at.ensures.list ∙ cut_whole c.args.self.now.orders.now c.args.self.now.count c.args.at c.args.energy c.requires.within c.if-energy-left-2.true;
-      untouched = tt;
-    }
+pub returns-then-energy-left-clause-answer : goal.returns-then-energy-left-clause-answer
+returns-then-energy-left-clause-answer c =
+    let within : c.in-Some.at < length (held c.args.self.now) = subst (λ place. IfSome place (λ at. at < length (held c.args.self.now))) c.in-Some.is c.requires in
+    let some : 1 ≤ c.args.energy = search rules in
+    let most : c.args.energy ≤ (get_or c.args.self.now.orders.now c.in-Some.at blank).energy = search rules in
+    rw c.in-Some.is (cut_accepted c.args.self.now.orders.now c.args.self.now.count c.in-Some.at c.args.energy within some most)
 
-pub returns-else-energy-left-2 : goal.returns-else-energy-left-2
-returns-else-energy-left-2 c =
-    record {
-      filled = part_filled c.args.self.now.orders.now c.args.self.now.count c.args.at c.args.energy c.requires.filled c.requires.within (omega arith);
-      size = length-set c.args.self.now.orders.now c.args.at _;
-      answer = cut_accepted c.args.self.now.orders.now c.args.self.now.count c.args.at c.args.energy c.requires.within c.if-energy-eq0.false c.if-energy-left.false;
-      list = cut_part c.args.self.now.orders.now c.args.self.now.count c.args.at c.args.energy c.requires.within c.if-energy-left-2.false;
-      untouched = tt;
-    }
+pub returns-then-energy-left-clause-list : goal.returns-then-energy-left-clause-list
+returns-then-energy-left-clause-list c =
+    let within : c.in-Some.at < length (held c.args.self.now) = subst (λ place. IfSome place (λ at. at < length (held c.args.self.now))) c.in-Some.is c.requires in
+    rw c.in-Some.is (c.take_at.ensures.list ∙ cut_whole c.args.self.now.orders.now c.args.self.now.count c.in-Some.at c.args.energy within c.if-energy-left.true)
+
+pub returns-else-energy-left-clause-answer : goal.returns-else-energy-left-clause-answer
+returns-else-energy-left-clause-answer c =
+    let within : c.in-Some.at < length (held c.args.self.now) = subst (λ place. IfSome place (λ at. at < length (held c.args.self.now))) c.in-Some.is c.requires in
+    let some : 1 ≤ c.args.energy = search rules in
+    let most : c.args.energy ≤ (get_or c.args.self.now.orders.now c.in-Some.at blank).energy = search rules in
+    rw c.in-Some.is (cut_accepted c.args.self.now.orders.now c.args.self.now.count c.in-Some.at c.args.energy within some most)
+
+pub returns-else-energy-left-clause-list : goal.returns-else-energy-left-clause-list
+returns-else-energy-left-clause-list c =
+    let within : c.in-Some.at < length (held c.args.self.now) = subst (λ place. IfSome place (λ at. at < length (held c.args.self.now))) c.in-Some.is c.requires in
+    rw c.in-Some.is (cut_part c.args.self.now.orders.now c.args.self.now.count c.in-Some.at c.args.energy within c.if-energy-left.false)

@@ -1,27 +1,23 @@
-use Rattle.std.proofs.Common.{◌≡◌, ◌+◌, ◌++◌, length, take, drop, Ok, sym, ap, ◌∙◌, subst, arith, rules}
-use Rattle.figures.specs.Orders.{checked_before}
-use Rattle.sides.specs.Listing.{Ranked, sooner, ranked_in, room_for, accepted}
+use Rattle.std.proofs.Common.{take, sym, ◌∙◌, subst, arith}
+use Rattle.sides.specs.Listing.{Ranked, sooner}
 use Rattle.book.proofs.Ranked.{sooner_laws, ranked_put}
-use Rattle.book.proofs.Sound.{figures_checked}
-use Rattle.books.proofs.Holding.{refilled, unrefused, room_is, put_accepted, put_in, put_figures, put_serials}
+use Rattle.books.proofs.Holding.{refilled, put_checked, put_in, put_figures, put_serials}
 use Rattle.books.proofs.places.Places.put_by_rank.Goals as goal
 
-pub returns : goal.returns
-returns g c =
+pub invariant_of-self-2 : goal.invariant_of-self-2
+invariant_of-self-2 g c =
     let before = sooner g.R.Ranking.first in
-    let checked : checked_before c.args.order (Ok tt) ≡ Ok tt =
-    sym c.check.ensures ∙ unrefused c.check.result tt (sym c.by_book.ensures ∙ c.in_ok-by_book.was) in
-    let went : c.insert.result ≡ Ok tt =
-    unrefused c.insert.result tt (sym c.by_book-2.ensures ∙ c.in_ok-by_book-2.was) in
-    let room : room_for (length c.args.self.now.orders.now) (take c.args.self.now.count c.args.self.now.orders.now) c.args.order ≡ Ok tt =
-    sym c.insert.ensures.answer ∙ went in
-    let left = room_is c.args.self.now.orders.now c.args.self.now.count c.args.order room c.requires.2 in
-    let is = put_in before c.args.order c.args.self.now.orders.now c.insert.new.places c.args.self.now.count left.0 (c.insert.ensures.after ∙ ap (λ r. accepted r (ranked_in before c.args.order (take c.args.self.now.count c.args.self.now.orders.now) ++ drop (c.args.self.now.count + 1) c.args.self.now.orders.now) c.args.self.now.orders.now) went) in
-    record {
-      filled = refilled c.args.self.now.orders.now c.insert.new.places (ranked_in before c.args.order (take c.args.self.now.count c.args.self.now.orders.now)) _ _ c.requires c.insert.auto.places (omega (arith, left.0, c.insert.auto.places)) is (put_figures before c.args.order (take c.args.self.now.count c.args.self.now.orders.now) (figures_checked c.args.order checked) c.requires.3) (put_serials before c.args.order (take c.args.self.now.count c.args.self.now.orders.now) left.1 c.requires.4);
-      size = search rules;
-      answer = put_accepted (length c.args.self.now.orders.now) (take c.args.self.now.count c.args.self.now.orders.now) c.args.order checked room;
-      list = is;
-      ranked = λ ranked. subst (Ranked before) (sym is) (ranked_put before (sooner_laws g.met.R.Ranking.lawful) c.args.order (take c.args.self.now.count c.args.self.now.orders.now) left.1 ranked);
-      untouched = tt;
-    }
+    let places = c.args.self.now.orders.now in
+    let count = c.args.self.now.count in
+    let fill = c.args.self.now.filled in
+    let checked = put_checked c.args.order c.check.result c.check.ensures (sym c.by_book.ensures ∙ c.in_ok-by_book.was) in
+    let put = put_in before c.args.order places c.insert.new.places count c.insert.result fill.2 c.insert.ensures.answer (sym c.by_book-2.ensures ∙ c.in_ok-by_book-2.was) c.insert.ensures.after in
+    record { filled = refilled places c.insert.new.places _ count _ fill c.insert.auto.places (omega (arith, put.0, c.insert.auto.places)) put.2 (put_figures before c.args.order (take count places) checked fill.3) (put_serials before c.args.order (take count places) put.1 fill.4) }
+
+pub returns-clause-ranked : goal.returns-clause-ranked
+returns-clause-ranked g c =
+    let before = sooner g.R.Ranking.first in
+    let places = c.args.self.now.orders.now in
+    let count = c.args.self.now.count in
+    let put = put_in before c.args.order places c.insert.new.places count c.insert.result c.args.self.now.filled.2 c.insert.ensures.answer (sym c.by_book-2.ensures ∙ c.in_ok-by_book-2.was) c.insert.ensures.after in
+    λ ranked. subst (Ranked before) (sym put.2) (ranked_put before (sooner_laws g.met.R.Ranking.lawful) c.args.order (take count places) put.1 ranked)

@@ -1,29 +1,23 @@
-use Rattle.std.proofs.Common.{◌≡◌, take, Some, None, ap, ◌∙◌, rules}
+use Rattle.std.proofs.Common.{◌≡◌, Some, None, sym, ap, ◌∙◌}
 use Rattle.std.specs.List.{position}
 use Rattle.book.specs.Lists.{with_serial}
 use Rattle.book.proofs.Places.{place_none}
-use Rattle.books.proofs.Holding.{first_order, first_taken, none_taken}
+use Rattle.books.specs.Holding.{held}
+use Rattle.books.proofs.Holding.{first_found, first_taken, none_taken}
 use Rattle.books.proofs.places.Places.withdraw.Goals as goal
 
-pub returns-in-Some : goal.returns-in-Some
-returns-in-Some c =
-    let found : Some c.in-Some.at ≡ position (with_serial c.args.serial) (take c.args.self.now.count c.args.self.now.orders.now) =
-    c.in-Some.ensures ∙ ap (position (with_serial c.args.serial)) c.held.ensures in
-    record {
-      filled = c.take_at.ensures.filled;
-      size = c.take_at.ensures.size;
-      answer = c.take_at.ensures.answer ∙ first_order (with_serial c.args.serial) (take c.args.self.now.count c.args.self.now.orders.now) _ found;
-      list = c.take_at.ensures.list ∙ first_taken (with_serial c.args.serial) (take c.args.self.now.count c.args.self.now.orders.now) _ found;
-    }
+pub returns-in_err-at-clause-answer : goal.returns-in_err-at-clause-answer
+returns-in_err-at-clause-answer c =
+    c.from_residual.ensures ∙ place_none (with_serial c.args.serial) (held c.args.self.now) (sym c.in_err-at.was ∙ (c.place_of.ensures ∙ ap (position (with_serial c.args.serial)) c.held.ensures))
 
-pub returns-in-None : goal.returns-in-None
-returns-in-None c =
-    let nowhere : None ≡ position (with_serial c.args.serial) (take c.args.self.now.count c.args.self.now.orders.now) =
-    c.in-None.ensures ∙ ap (position (with_serial c.args.serial)) c.held.ensures in
-    let none = place_none (with_serial c.args.serial) (take c.args.self.now.count c.args.self.now.orders.now) nowhere in
-    record {
-      filled = search rules;
-      size = search rules;
-      answer = none;
-      list = none_taken (with_serial c.args.serial) (take c.args.self.now.count c.args.self.now.orders.now) none;
-    }
+pub returns-in_err-at-clause-list : goal.returns-in_err-at-clause-list
+returns-in_err-at-clause-list c =
+    none_taken (with_serial c.args.serial) (held c.args.self.now) (place_none (with_serial c.args.serial) (held c.args.self.now) (sym c.in_err-at.was ∙ (c.place_of.ensures ∙ ap (position (with_serial c.args.serial)) c.held.ensures)))
+
+pub returns-clause-answer : goal.returns-clause-answer
+returns-clause-answer c =
+    c.take_at.ensures.answer ∙ first_found (with_serial c.args.serial) (held c.args.self.now) (Some c.in_ok-at.at) (sym c.in_ok-at.was ∙ (c.place_of.ensures ∙ ap (position (with_serial c.args.serial)) c.held.ensures))
+
+pub returns-clause-list : goal.returns-clause-list
+returns-clause-list c =
+    c.take_at.ensures.list ∙ first_taken (with_serial c.args.serial) (held c.args.self.now) _ (sym c.in_ok-at.was ∙ (c.place_of.ensures ∙ ap (position (with_serial c.args.serial)) c.held.ensures))

@@ -7,5 +7,5 @@ use Rattle.books.proofs.pile.calls.PileBook.count.Goals as goal
 
 pub returns : goal.returns
 returns g c =
-    let all : length (held c.args.self.now.places) ≡ c.args.self.now.places.count = length-take-le _ _ c.args.self.now.filled.2 in
+    let all : length (held c.args.self.now.places) ≡ c.args.self.now.places.count = length-take-le _ _ c.args.self.now.places.filled.2 in
     sym (length_sorted (sooner g.S.Rank.Ranking.first) (held c.args.self.now.places) ∙ all)

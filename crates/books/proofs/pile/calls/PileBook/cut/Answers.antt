@@ -1,15 +1,14 @@
-use Rattle.sides.specs.Listing.{sooner}
+use Rattle.std.proofs.Common.{ap, ◌∙◌}
+use Rattle.sides.specs.Listing.{accepted, sooner}
 use Rattle.book.proofs.Ranked.{sooner_laws}
 use Rattle.books.specs.Holding.{held}
-use Rattle.books.proofs.Sorting.{sorted_ranked}
+use Rattle.books.specs.Sorting.{sorted}
+use Rattle.books.proofs.Piling.{accepted_sorted, cut_sorted}
 use Rattle.books.proofs.pile.calls.PileBook.cut.Goals as goal
 
-pub returns : goal.returns
-returns g c =
-    record {
-      answer = c.cut_soonest.ensures.answer;
-      list = c.cut_soonest.ensures.list;
-      untouched = c.cut_soonest.ensures.untouched;
-      capacity = c.cut_soonest.ensures.size;
-      ranked = λ _. sorted_ranked (sooner g.S.Rank.Ranking.first) (sooner_laws g.met.S.Rank.Ranking.lawful) (held c.cut_soonest.new.places) c.cut_soonest.ensures.filled.4;
-    }
+pub returns-clause-list : goal.returns-clause-list
+returns-clause-list g c =
+    let before = sooner g.S.Rank.Ranking.first in
+    let orders = held c.args.self.now.places in
+    let is = cut_sorted g.S.Rank.Ranking.first (sooner_laws g.met.S.Rank.Ranking.lawful) c.args.hour c.args.energy orders c.soonest-place.result c.args.self.now.places.filled.4 c.soonest-place.ensures.within c.soonest-place.ensures.first in
+    ap (sorted before) c.cut_at.ensures.list ∙ (accepted_sorted before c.cut_at.result _ orders ∙ ap (λ new. accepted c.cut_at.result new (sorted before orders)) is)

@@ -8,4 +8,4 @@ use Rattle.books.proofs.pile.calls.PileBook.find.Goals as goal
 
 pub returns : goal.returns
 returns g c =
-    c.first.ensures ∙ (ap (find (with_serial c.args.serial)) c.held.ensures ∙ sym (found_sorted (sooner g.S.Rank.Ranking.first) c.args.serial (held c.args.self.now.places) c.args.self.now.filled.4))
+    c.first.ensures ∙ (ap (find (with_serial c.args.serial)) c.held.ensures ∙ sym (found_sorted (sooner g.S.Rank.Ranking.first) c.args.serial (held c.args.self.now.places) c.args.self.now.places.filled.4))

@@ -3,15 +3,12 @@ use Rattle.sides.specs.Listing.{sooner}
 use Rattle.book.proofs.Ranked.{sooner_laws}
 use Rattle.books.specs.Holding.{held}
 use Rattle.books.proofs.Piling.{put_answer_sorted, put_sorted}
-use Rattle.books.proofs.Sorting.{sorted_ranked}
 use Rattle.books.proofs.pile.calls.PileBook.put.Goals as goal
 
-pub returns : goal.returns
-returns g c =
-    record {
-      answer = c.put_last.ensures.answer ∙ put_answer_sorted (sooner g.S.Rank.Ranking.first) _ (held c.args.self.now.places) c.args.order;
-      list = put_sorted (sooner g.S.Rank.Ranking.first) (sooner_laws g.met.S.Rank.Ranking.lawful) c.put_last.result (held c.args.self.now.places) (held c.put_last.new.self) c.args.order c.put_last.ensures.list c.put_last.ensures.filled.4;
-      untouched = c.put_last.ensures.untouched;
-      capacity = c.put_last.ensures.size;
-      ranked = λ _. sorted_ranked (sooner g.S.Rank.Ranking.first) (sooner_laws g.met.S.Rank.Ranking.lawful) (held c.put_last.new.self) c.put_last.ensures.filled.4;
-    }
+pub returns-clause-answer : goal.returns-clause-answer
+returns-clause-answer g c =
+    c.put_last.ensures.answer ∙ put_answer_sorted (sooner g.S.Rank.Ranking.first) _ (held c.args.self.now.places) c.args.order
+
+pub returns-clause-list : goal.returns-clause-list
+returns-clause-list g c =
+    put_sorted (sooner g.S.Rank.Ranking.first) (sooner_laws g.met.S.Rank.Ranking.lawful) c.put_last.result (held c.args.self.now.places) (held c.put_last.new.self) c.args.order c.put_last.ensures.list c.put_last.new.self.filled.4
