@@ -25,11 +25,6 @@ place_found test xs at e = found (ltb (prefix_len (λ x. not (test x)) xs) (leng
       let is : at ≡ prefix_len (λ x. not (test x)) xs = cc in (is, rw is (ltb-true _ _ b))
   found false b e = let z : ◌≡◌ {A = ℕ} 0 1 = cc in absurd (omega arith)
 
-pub found_at : (test : Order → Bool) (xs : List Order) (at : ℕ) (d : Order) → Some at ≡ position test xs → Some (get_or xs at d) ≡ find test xs
-found_at test xs at d e =
-    let found = place_found test xs at e in
-    sym (find_at test xs ∙ (ap (slice_get xs) (sym found.0) ∙ slice_get-get_or xs at d found.1))
-
 pub place_none : (test : Order → Bool) (xs : List Order) → None ≡ position test xs → None ≡ find test xs
 place_none test xs e = none (ltb (prefix_len (λ x. not (test x)) xs) (length xs)) refl e where
   none : (b : Bool) → ltb (prefix_len (λ x. not (test x)) xs) (length xs) ≡ b → None ≡ cond b (Some (prefix_len (λ x. not (test x)) xs)) None → None ≡ find test xs

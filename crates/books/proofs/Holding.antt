@@ -44,13 +44,6 @@ pub lent_front : (new behind zs rest : List Order) (left : ℕ) → left ≡ len
 lent_front new behind zs rest left long is =
     ap (λ ys. take left (ys ++ rest)) is ∙ (ap (take left) (append_assoc new behind rest) ∙ take_at new (behind ++ rest) left (sym long))
 
--- what was refused is as it was
-pub as_it_was : {A B E : Type 0} (answer : Result B E) (e : E) (new old : A) → answer ≡ Err e → old ≡ accepted answer new old
-as_it_was answer e new old h = ap (λ r. accepted r new old) (sym h)
-
-pub not_touched : {B E : Type 0} (answer : Result B E) (e : E) (places : List Order) → answer ≡ Err e → Untouched answer places places
-not_touched answer e places h = subst (λ r. Untouched r places places) (sym h) refl
-
 -- put
 
 -- what the book does not refuse is not refused
@@ -128,14 +121,6 @@ pub order_at : (xs : List Order) (count at : ℕ) → at < length (take count xs
 order_at xs count at l =
     let long = length-take count xs in
     slice_get-get_or (take count xs) at blank l ∙ ap Some (get_or-take count xs at blank (omega arith))
-
-pub no_order_at : (xs : List Order) (count at : ℕ) → count ≤ at → None ≡ slice_get (take count xs) at
-no_order_at xs count at h =
-    let long = length-take count xs in sym (slice_get_past (take count xs) at (omega arith))
-
--- nothing can be taken: no energy is asked for, or more than the order has
-pub taking_refused : (energy : ℕ) (order : Option Order) → (1 ≤ energy → energy_in order < energy) → by_book (Err (CutTooLarge energy)) ≡ taking energy order
-taking_refused energy order h = grind (arith, nat_tests)
 
 taking_accepted : (energy : ℕ) (order : Option Order) → 1 ≤ energy → energy ≤ energy_in order → Ok tt ≡ taking energy order
 taking_accepted energy order n l = grind (arith, nat_tests)

@@ -20,16 +20,6 @@ rank_found before x xs at e = found (stands x.serial xs) e where
   found true e = let z : ◌≡◌ {A = ℕ} 0 1 = cc in absurd (omega arith)
   found false e = (refl, cc)
 
--- no place is left behind the first `count`
-pub room_full : (xs : List Order) (count : ℕ) (x : Order) → length xs ≤ count → Err (BookFull (length xs)) ≡ room_for (length xs) (take count xs) x
-room_full xs count x h =
-    let full = le-leb (length xs) (length (take count xs)) (simp length-take (omega arith)) in rw full refl
-
--- a place is left, and the serial is new
-pub room_left : (xs : List Order) (count : ℕ) (x : Order) → count < length xs → stands x.serial (take count xs) ≡ false → Ok tt ≡ room_for (length xs) (take count xs) x
-room_left xs count x h absent =
-    let free = lt-leb (length xs) (length (take count xs)) (simp length-take (omega arith)) in rw (free, absent) refl
-
 pub rank_within : (before : Order → Order → Bool) (x : Order) (xs : List Order) (count at : ℕ) → Some at ≡ rank_for before x (take count xs) → at ≤ count
 rank_within before x xs count at e =
     let is = (rank_found before x (take count xs) at e).1 in
