@@ -12,7 +12,10 @@ use sides::side::Side;
 
 /// The resting orders of one side. A book means a capacity, which stays, and a list of orders by rising
 /// hour and then by rank.
-pub trait Book<S: Side> {
+pub trait Book {
+    /// Whose orders rest in it.
+    type Side: Side;
+
     // The number of places that it was made with.
     ghost capacity: { Self → ℕ };
 
@@ -25,7 +28,7 @@ pub trait Book<S: Side> {
     /// Adds an order at its ranked position.
     fn put(&mut self, order: Order) -> Result<(), Refusal>
         ensures answer { result ≡ put_answer (capacity self.old) (list self.old) order }
-        ensures list { list self.new ≡ accepted result (ranked_in (sooner S.Rank.Ranking.first) order (list self.old)) (list self.old) }
+        ensures list { list self.new ≡ accepted result (ranked_in (sooner Self.Side.Rank.Ranking.first) order (list self.old)) (list self.old) }
         ensures untouched { Untouched result (places self.new) (places self.old) }
         ensures capacity { capacity self.new ≡ capacity self.old };
 
@@ -69,5 +72,5 @@ pub trait Book<S: Side> {
         ensures capacity { capacity self.new ≡ capacity self.old };
 
     // Every book of this kind is sound, in every state: its list is ranked, among others.
-    ghost sound: { (book : Self) → Sound (sooner S.Rank.Ranking.first) (capacity book) (list book) };
+    ghost sound: { (book : Self) → Sound (sooner Self.Side.Rank.Ranking.first) (capacity book) (list book) };
 }

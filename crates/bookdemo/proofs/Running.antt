@@ -3,7 +3,7 @@ use Rattle.std.proofs.Common.{◌≡◌, ℕ, ◌+◌, ◌<◌, ◌≤◌, Bool,
 use Rattle.std.proofs.lemmas.List.{drop_more, drop_all}
 use Rattle.figures.specs.declared.order.Order.{Order}
 use Rattle.figures.specs.declared.refusal.Refusal.{Refusal}
-use Rattle.sides.specs.Listing.{accepted, ranked_in, StaysRanked}
+use Rattle.sides.specs.Listing.{accepted, ranked_in}
 use Rattle.book.specs.Meaning.{put_answer}
 use Rattle.bookdemo.specs.Trial.{one_put, all_put, count_put}
 
@@ -13,10 +13,9 @@ pub record Running (before : Order → Order → Bool) (orders : List Order) (ca
   pub rest : all_put before capacity ys (drop i orders) ≡ all_put before capacity xs orders
   pub counted : count + count_put before capacity ys (drop i orders) ≡ count_put before capacity xs orders
   pub bound : count ≤ i
-  pub ranked : StaysRanked before xs ys
 
-running_more : (before : Order → Order → Bool) (orders : List Order) (capacity : ℕ) (xs : List Order) (now : ℕ) (ys : List Order) (count i : ℕ) (d : Order) (later : ℕ) (zs : List Order) (one : ℕ) → Running before orders capacity xs now ys count i → i < length orders → later ≡ now → zs ≡ one_put before now ys (get_or orders i d) → one ≡ accepted (put_answer now ys (get_or orders i d)) 1 0 → one ≤ 1 → StaysRanked before ys zs → Running before orders capacity xs later zs (count + one) (i + 1)
-running_more before orders capacity xs now ys count i d later zs one run l cap is was few keeps =
+running_more : (before : Order → Order → Bool) (orders : List Order) (capacity : ℕ) (xs : List Order) (now : ℕ) (ys : List Order) (count i : ℕ) (d : Order) (later : ℕ) (zs : List Order) (one : ℕ) → Running before orders capacity xs now ys count i → i < length orders → later ≡ now → zs ≡ one_put before now ys (get_or orders i d) → one ≡ accepted (put_answer now ys (get_or orders i d)) 1 0 → one ≤ 1 → Running before orders capacity xs later zs (count + one) (i + 1)
+running_more before orders capacity xs now ys count i d later zs one run l cap is was few =
     let next = drop_more orders i d l in
     let same = run.same in
     let list : zs ≡ one_put before capacity ys (get_or orders i d) = is ∙ ap (λ n. one_put before n ys (get_or orders i d)) same in
@@ -33,7 +32,6 @@ running_more before orders capacity xs now ys count i d later zs one run l cap i
       rest = sym step ∙ run.rest;
       counted = omega arith;
       bound = omega arith;
-      ranked = λ ranked. keeps (run.ranked ranked);
     }
 
 -- the answer of a put, told by whether it is `Ok`
@@ -44,12 +42,12 @@ counted (Err e') ok e = ap (λ v. cond {A = ℕ} v 1 0) e
 most : (ok : Bool) → cond ok 1 0 ≤ 1
 most ok = grind arith
 
-pub running_put : (before : Order → Order → Bool) (orders : List Order) (capacity : ℕ) (xs : List Order) (now : ℕ) (ys : List Order) (count i : ℕ) (d : Order) (later : ℕ) (zs : List Order) (answer : Result (Unit {0}) Refusal) (ok : Bool) (sum : ℕ) → Running before orders capacity xs now ys count i → i < length orders → later ≡ now → answer ≡ put_answer now ys (get_or orders i d) → zs ≡ accepted answer (ranked_in before (get_or orders i d) ys) ys → ok ≡ is_ok answer → sum ≡ count + cond ok 1 0 → StaysRanked before ys zs → Running before orders capacity xs later zs sum (i + 1)
-running_put before orders capacity xs now ys count i d later zs answer ok sum run l cap said is test added keeps =
+pub running_put : (before : Order → Order → Bool) (orders : List Order) (capacity : ℕ) (xs : List Order) (now : ℕ) (ys : List Order) (count i : ℕ) (d : Order) (later : ℕ) (zs : List Order) (answer : Result (Unit {0}) Refusal) (ok : Bool) (sum : ℕ) → Running before orders capacity xs now ys count i → i < length orders → later ≡ now → answer ≡ put_answer now ys (get_or orders i d) → zs ≡ accepted answer (ranked_in before (get_or orders i d) ys) ys → ok ≡ is_ok answer → sum ≡ count + cond ok 1 0 → Running before orders capacity xs later zs sum (i + 1)
+running_put before orders capacity xs now ys count i d later zs answer ok sum run l cap said is test added =
     let one : cond ok 1 0 ≡ accepted (put_answer now ys (get_or orders i d)) 1 0 =
     counted answer ok test ∙ ap (λ r. accepted r 1 0) said in
     let few : cond ok 1 0 ≤ 1 = most ok in
-    let more = running_more before orders capacity xs now ys count i d later zs (cond ok 1 0) run l cap (is ∙ ap (λ r. accepted r (ranked_in before (get_or orders i d) ys) ys) said) one few keeps in
+    let more = running_more before orders capacity xs now ys count i d later zs (cond ok 1 0) run l cap (is ∙ ap (λ r. accepted r (ranked_in before (get_or orders i d) ys) ys) said) one few in
     subst (λ n. Running before orders capacity xs later zs n (i + 1)) (sym added) more
 
 pub running_all : (before : Order → Order → Bool) (orders : List Order) (capacity : ℕ) (xs : List Order) (now : ℕ) (ys : List Order) (count i : ℕ) → Running before orders capacity xs now ys count i → length orders ≤ i → (count ≡ count_put before capacity xs orders) × (ys ≡ all_put before capacity xs orders)

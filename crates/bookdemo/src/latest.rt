@@ -1,6 +1,6 @@
 // A ranking that the market does not have: at equal limits the later bid comes first. It shows that
 // books serve any ranking that keeps the laws.
-ghost use Rattle.std.specs.Prelude.{nat_lt};
+ghost use Rattle.std.specs.Prelude.{nat_lt, pos, refl};
 ghost use Rattle.sides.specs.Ranking.{buying, limit_then};
 ghost use Rattle.std.proofs.Common.{rules};
 
@@ -8,6 +8,7 @@ use figures::bounds::HIGHEST_LIMIT;
 use figures::order::Order;
 use sides::ranking::Ranking;
 use sides::side::{BidSide, Side};
+use std::cmp::Reverse;
 
 #[derive(Clone, Copy, Debug, PartialEq, Eq)]
 pub struct LatestFirst;
@@ -20,7 +21,8 @@ impl Ranking for LatestFirst {
     ghost lawful = { Prim.search rules };
 
     fn comes_first(order: &Order, other: &Order) -> bool {
-        order.limit > other.limit || order.limit == other.limit && order.serial > other.serial
+        (Reverse(order.limit), Reverse(order.serial))
+            < (Reverse(other.limit), Reverse(other.serial))
     }
 }
 
@@ -33,9 +35,9 @@ impl Side for LateBids {
 
     const MARKET: i32 = HIGHEST_LIMIT;
 
-    fn market_limit() -> i32 {
-        Self::MARKET
-    }
+    ghost MARKET = { pos 400000 };
+
+    ghost market = { refl };
 }
 
 impl BidSide for LateBids {

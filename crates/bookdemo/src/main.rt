@@ -9,17 +9,30 @@ mod show;
 mod tests;
 mod trial;
 
+use books::pile::Pile;
+use books::shelf::Shelf;
 use latest::LateBids;
-use show::{show_pile, show_shelf};
+use orders::{PLACES, order};
+use show::show;
 use sides::asks::Asks;
 use sides::bids::Bids;
 use std::io;
 
 fn main(rt: HostRuntime) -> io::Result<()> {
-    show_shelf(&rt, "SHELF OF BIDS", Bids)?;
-    show_pile(&rt, "PILE OF BIDS", Bids)?;
-    show_shelf(&rt, "SHELF OF ASKS", Asks)?;
-    show_pile(&rt, "PILE OF ASKS", Asks)?;
-    show_shelf(&rt, "SHELF OF BIDS, LATEST FIRST", LateBids)?;
-    show_pile(&rt, "PILE OF BIDS, LATEST FIRST", LateBids)
+    // Whatever stands in the places, a new book is empty.
+    let mut places = [order(0, 0, 0, 0, 0); PLACES];
+    show(&rt, "SHELF OF BIDS", Shelf::<Bids>::new(&mut places))?;
+    show(&rt, "PILE OF BIDS", Pile::<Bids>::new(&mut places))?;
+    show(&rt, "SHELF OF ASKS", Shelf::<Asks>::new(&mut places))?;
+    show(&rt, "PILE OF ASKS", Pile::<Asks>::new(&mut places))?;
+    show(
+        &rt,
+        "SHELF OF BIDS, LATEST FIRST",
+        Shelf::<LateBids>::new(&mut places),
+    )?;
+    show(
+        &rt,
+        "PILE OF BIDS, LATEST FIRST",
+        Pile::<LateBids>::new(&mut places),
+    )
 }

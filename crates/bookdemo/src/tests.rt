@@ -1,5 +1,6 @@
 // The same calls on a shelf and on a pile, of bids and of asks. Each test runs one function over any
 // book, so that the kinds are held to the same answers.
+use crate::orders;
 use book::book::Book;
 use books::pile::Pile;
 use books::shelf::Shelf;
@@ -20,31 +21,19 @@ fn check_eq<T: PartialEq + Debug + Drop>(found: T, wanted: T) -> Result<(), Fail
 }
 
 fn order(hour: u32, serial: u32, energy: u32, limit: i32) -> Order {
-    Order {
-        hour,
-        serial,
-        member: 31,
-        energy,
-        limit,
-    }
+    orders::order(31, hour, serial, energy, limit)
 }
 
 fn refused(reason: Reason) -> Result<(), Refusal> {
-    Err(Refusal {
-        part: Part::Book,
-        reason,
-    })
+    Err(reason.refused_by(Part::Book))
 }
 
 fn serial_of(found: Option<Order>) -> u32 {
-    match found {
-        Some(order) => order.serial,
-        None => 0,
-    }
+    found.map_or(0, |order| order.serial)
 }
 
 // Whatever is outside the figures is refused, in the order of the checks, and nothing is listed.
-fn refuses_in_order<S: Side, B: Book<S>>(book: &mut B) -> Result<(), Fail> {
+fn refuses_in_order<B: Book>(book: &mut B) -> Result<(), Fail> {
     let mut wrong = Order {
         hour: 1_000_025,
         serial: 0,
@@ -100,7 +89,7 @@ fn refuses_in_order<S: Side, B: Book<S>>(book: &mut B) -> Result<(), Fail> {
 }
 
 // A book of two places takes two orders; a full book is full before a serial stands.
-fn fills<S: Side, B: Book<S>>(book: &mut B) -> Result<(), Fail> {
+fn fills<B: Book>(book: &mut B) -> Result<(), Fail> {
     check_eq(book.put(order(7, 1, 1, 0)), Ok(()))?;
     check_eq(
         book.put(order(7, 1, 1, 0)),
@@ -118,7 +107,7 @@ fn fills<S: Side, B: Book<S>>(book: &mut B) -> Result<(), Fail> {
 }
 
 // Equal limits go by serial. A cut lowers the best order, and at 0 it leaves.
-fn cuts<S: Side, B: Book<S>>(book: &mut B) -> Result<(), Fail> {
+fn cuts<B: Book>(book: &mut B) -> Result<(), Fail> {
     check_eq(book.put(order(7, 9, 5, 100)), Ok(()))?;
     check_eq(book.put(order(7, 8, 4, 100)), Ok(()))?;
     check_eq(serial_of(book.best(7)), 8)?;
@@ -133,7 +122,7 @@ fn cuts<S: Side, B: Book<S>>(book: &mut B) -> Result<(), Fail> {
 }
 
 // What is withdrawn is answered as it stands; what lapses is added up.
-fn empties<S: Side, B: Book<S>>(book: &mut B) -> Result<(), Fail> {
+fn empties<B: Book>(book: &mut B) -> Result<(), Fail> {
     check_eq(book.put(order(7, 1, 1_000_000, 3)), Ok(()))?;
     check_eq(book.put(order(8, 2, 20, 2)), Ok(()))?;
     check_eq(book.put(order(7, 3, 999_999, 1)), Ok(()))?;
@@ -147,123 +136,70 @@ fn empties<S: Side, B: Book<S>>(book: &mut B) -> Result<(), Fail> {
     check_eq(book.count(), 0)
 }
 
-fn refuses_in_order_shelf<S: Side + Drop>(side: S) -> Result<(), Fail> {
-    let mut places = [order(7, 1, 1, 1); 3];
-    let mut shelf = Shelf::new(side, &mut places)?;
-    refuses_in_order::<S, Shelf<S>>(&mut shelf)
-}
-
-fn refuses_in_order_pile<S: Side + Drop>(side: S) -> Result<(), Fail> {
-    let mut places = [order(7, 1, 1, 1); 3];
-    let mut pile = Pile::new(side, &mut places)?;
-    refuses_in_order::<S, Pile<S>>(&mut pile)
-}
-
-fn fills_shelf<S: Side + Drop>(side: S) -> Result<(), Fail> {
-    let mut places = [order(7, 1, 1, 1); 2];
-    let mut shelf = Shelf::new(side, &mut places)?;
-    fills::<S, Shelf<S>>(&mut shelf)
-}
-
-fn fills_pile<S: Side + Drop>(side: S) -> Result<(), Fail> {
-    let mut places = [order(7, 1, 1, 1); 2];
-    let mut pile = Pile::new(side, &mut places)?;
-    fills::<S, Pile<S>>(&mut pile)
-}
-
-fn cuts_shelf<S: Side + Drop>(side: S) -> Result<(), Fail> {
-    let mut places = [order(7, 1, 1, 1); 3];
-    let mut shelf = Shelf::new(side, &mut places)?;
-    cuts::<S, Shelf<S>>(&mut shelf)
-}
-
-fn cuts_pile<S: Side + Drop>(side: S) -> Result<(), Fail> {
-    let mut places = [order(7, 1, 1, 1); 3];
-    let mut pile = Pile::new(side, &mut places)?;
-    cuts::<S, Pile<S>>(&mut pile)
-}
-
-fn empties_shelf<S: Side + Drop>(side: S) -> Result<(), Fail> {
-    let mut places = [order(7, 1, 1, 1); 3];
-    let mut shelf = Shelf::new(side, &mut places)?;
-    empties::<S, Shelf<S>>(&mut shelf)
-}
-
-fn empties_pile<S: Side + Drop>(side: S) -> Result<(), Fail> {
-    let mut places = [order(7, 1, 1, 1); 3];
-    let mut pile = Pile::new(side, &mut places)?;
-    empties::<S, Pile<S>>(&mut pile)
+// A test of one book, run on each kind, of bids and of asks, over so many places.
+macro_rules! on_every_book {
+    ($test:ident, $count:literal) => {{
+        let mut places = [order(7, 1, 1, 1); $count];
+        $test(&mut Shelf::<Bids>::new(&mut places)?)?;
+        $test(&mut Shelf::<Asks>::new(&mut places)?)?;
+        $test(&mut Pile::<Bids>::new(&mut places)?)?;
+        $test(&mut Pile::<Asks>::new(&mut places)?)
+    }};
 }
 
 #[test]
 fn refuses_in_order_on_every_book() -> Result<(), Fail> {
-    refuses_in_order_shelf(Bids)?;
-    refuses_in_order_shelf(Asks)?;
-    refuses_in_order_pile(Bids)?;
-    refuses_in_order_pile(Asks)
+    on_every_book!(refuses_in_order, 3)
 }
 
 #[test]
 fn fills_on_every_book() -> Result<(), Fail> {
-    fills_shelf(Bids)?;
-    fills_shelf(Asks)?;
-    fills_pile(Bids)?;
-    fills_pile(Asks)
+    on_every_book!(fills, 2)
 }
 
 #[test]
 fn cuts_on_every_book() -> Result<(), Fail> {
-    cuts_shelf(Bids)?;
-    cuts_shelf(Asks)?;
-    cuts_pile(Bids)?;
-    cuts_pile(Asks)
+    on_every_book!(cuts, 3)
 }
 
 #[test]
 fn empties_on_every_book() -> Result<(), Fail> {
-    empties_shelf(Bids)?;
-    empties_shelf(Asks)?;
-    empties_pile(Bids)?;
-    empties_pile(Asks)
+    on_every_book!(empties, 3)
 }
 
 // What the making of a shelf, and of a pile, over so many places answers; at most 4,097 are tried.
-fn shelf_over<S: Side + Drop>(side: S, count: usize) -> Result<(), Refusal> {
+fn shelf_over(count: usize) -> Result<(), Refusal> {
     let mut places = [order(7, 1, 1, 1); 4097];
-    match Shelf::new(side, &mut places[0..count.min(4097)]) {
-        Ok(_) => Ok(()),
-        Err(refusal) => Err(refusal),
-    }
+    let _shelf = Shelf::<Bids>::new(&mut places[..count.min(4097)])?;
+    Ok(())
 }
 
-fn pile_over<S: Side + Drop>(side: S, count: usize) -> Result<(), Refusal> {
+fn pile_over(count: usize) -> Result<(), Refusal> {
     let mut places = [order(7, 1, 1, 1); 4097];
-    match Pile::new(side, &mut places[0..count.min(4097)]) {
-        Ok(_) => Ok(()),
-        Err(refusal) => Err(refusal),
-    }
+    let _pile = Pile::<Asks>::new(&mut places[..count.min(4097)])?;
+    Ok(())
 }
 
 #[test]
 fn makes_books_of_1_to_4096_places() -> Result<(), Fail> {
     check_eq(
-        shelf_over(Bids, 0),
+        shelf_over(0),
         refused(Reason::PlacesOutOfRange { places: 0 }),
     )?;
-    check_eq(shelf_over(Bids, 1), Ok(()))?;
-    check_eq(shelf_over(Bids, 4096), Ok(()))?;
+    check_eq(shelf_over(1), Ok(()))?;
+    check_eq(shelf_over(4096), Ok(()))?;
     check_eq(
-        shelf_over(Bids, 4097),
+        shelf_over(4097),
         refused(Reason::PlacesOutOfRange { places: 4097 }),
     )?;
     check_eq(
-        pile_over(Asks, 0),
+        pile_over(0),
         refused(Reason::PlacesOutOfRange { places: 0 }),
     )?;
-    check_eq(pile_over(Asks, 1), Ok(()))?;
-    check_eq(pile_over(Asks, 4096), Ok(()))?;
+    check_eq(pile_over(1), Ok(()))?;
+    check_eq(pile_over(4096), Ok(()))?;
     check_eq(
-        pile_over(Asks, 4097),
+        pile_over(4097),
         refused(Reason::PlacesOutOfRange { places: 4097 }),
     )
 }

@@ -30,7 +30,9 @@ impl<'a, S: Side> Pile<'a, S> {
     }
 }
 
-impl<'a, S: Side> Book<S> for Pile<'a, S> {
+impl<'a, S: Side> Book for Pile<'a, S> {
+    type Side = S;
+
     ghost capacity = { λ pile. size pile.places };
 
     ghost list = { λ pile. sorted (sooner S.Rank.Ranking.first) (held pile.places) };

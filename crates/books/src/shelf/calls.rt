@@ -28,7 +28,9 @@ impl<'a, S: Side> Shelf<'a, S> {
     }
 }
 
-impl<'a, S: Side> Book<S> for Shelf<'a, S> {
+impl<'a, S: Side> Book for Shelf<'a, S> {
+    type Side = S;
+
     ghost capacity = { λ shelf. size shelf.places };
 
     ghost list = { λ shelf. held shelf.places };
