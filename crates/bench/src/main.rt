@@ -3,26 +3,23 @@
 
 ghost use Rattle.std.specs.Prelude.{◌≤◌};
 
+use books::pile::Pile;
+use books::shelf::Shelf;
 use figures::bounds::MOST_PLACES;
-use kinds::{run_pile, run_shelf};
 use orders::order;
 use sides::bids::Bids;
 use std::{env, io};
-use table::{Shown, print_header, print_line};
+use table::{Shown, Table};
+use timing::time_runs;
 
-mod kinds;
 mod orders;
 mod runs;
 mod table;
 mod timing;
 
 fn main(rt: HostRuntime) -> anyhow::Result<()> {
-    run(&rt)
-}
-
-fn run(rt: &HostRuntime) -> anyhow::Result<()> {
-    match asked(rt)? {
-        Some(shown) => print_table(rt, shown),
+    match asked(&rt)? {
+        Some(shown) => print_table(&Table { out: &rt, shown }),
         None => Ok(rt.println("usage: bench [counts]")?),
     }
 }
@@ -39,23 +36,23 @@ fn asked(rt: &HostRuntime) -> io::Result<Option<Shown>> {
     Ok(None)
 }
 
-fn print_table(rt: &HostRuntime, shown: Shown) -> anyhow::Result<()> {
-    print_header(rt, shown)?;
-    print_lines(rt, shown, 256)?;
-    print_lines(rt, shown, 1_024)?;
-    print_lines(rt, shown, 4_096)
+fn print_table(table: &Table) -> anyhow::Result<()> {
+    table.print_header()?;
+    print_lines(table, 256)?;
+    print_lines(table, 1_024)?;
+    print_lines(table, 4_096)
 }
 
 // Prints the lines of the books that have room for just so many orders.
-fn print_lines(rt: &HostRuntime, shown: Shown, orders: u32) -> anyhow::Result<()>
+fn print_lines(table: &Table, orders: u32) -> anyhow::Result<()>
     requires { orders ≤ 4096 }
 {
     // Whatever stands in the places, a new book is empty.
     let mut places = [order(1); MOST_PLACES];
-    let places = &mut places[0..orders as usize];
-    let shelf = run_shelf(rt, Bids, places, orders)?;
-    print_line(rt, shown, "shelf", orders, shelf)?;
-    let pile = run_pile(rt, Bids, places, orders)?;
-    print_line(rt, shown, "pile", orders, pile)?;
+    let places = &mut places[..orders as usize];
+    let shelf = time_runs(table.out, Shelf::<Bids>::new(places), orders)?;
+    table.print_line("shelf", orders, shelf)?;
+    let pile = time_runs(table.out, Pile::<Bids>::new(places), orders)?;
+    table.print_line("pile", orders, pile)?;
     Ok(())
 }

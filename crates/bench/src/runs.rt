@@ -4,37 +4,29 @@ ghost use Rattle.std.specs.Prelude.{◌≤◌};
 use crate::orders::{LAST_HOUR, order};
 use book::book::Book;
 use figures::bounds::MOST_PLACES;
-use sides::side::Side;
 
 /// Puts the first `count` orders of the stream, and answers how many the book accepted.
-pub(crate) fn fill<S: Side, B: Book<S>>(book: &mut B, count: u32) -> u32
+pub(crate) fn fill<B: Book>(book: &mut B, count: u32) -> usize
     ensures { result ≤ count }
 {
-    let mut accepted = 0;
-    for put in 0..count {
-        if book.put(order(put + 1)).is_ok() {
-            accepted += 1;
-        }
-    }
-    accepted
+    (0..count)
+        .filter(|put| book.put(order(put + 1)).is_ok())
+        .count()
 }
 
 /// Takes 1 kWh off the best order of an hour, `count` times, the hours in turn, and answers how many
 /// cuts the book accepted.
-pub(crate) fn cut<S: Side, B: Book<S>>(book: &mut B, count: u32) -> u32
+pub(crate) fn cut<B: Book>(book: &mut B, count: u32) -> usize
     ensures { result ≤ count }
 {
-    let mut accepted = 0;
-    for turn in 0..count {
-        if book.cut(1 + turn % LAST_HOUR, 1).is_ok() {
-            accepted += 1;
-        }
-    }
-    accepted
+    (0..count)
+        .filter(|turn| book.cut(1 + turn % LAST_HOUR, 1).is_ok())
+        .count()
 }
 
-/// Empties the hours one after the other, and answers how many orders it removed.
-pub(crate) fn drain<S: Side, B: Book<S>>(book: &mut B) -> u32 {
+/// Empties the hours one after the other, and answers how many orders it removed. Of a `sum` over the hours
+/// it is not found that it fits.
+pub(crate) fn drain<B: Book>(book: &mut B) -> usize {
     let mut removed = 0;
     for passed in 0..LAST_HOUR {
         removed += drain_hour(book, 1 + passed);
@@ -44,16 +36,18 @@ pub(crate) fn drain<S: Side, B: Book<S>>(book: &mut B) -> u32 {
 
 // Cuts all the energy of an hour's best order until the hour is empty, and answers how many orders it
 // removed.
-fn drain_hour<S: Side, B: Book<S>>(book: &mut B, hour: u32) -> u32
+fn drain_hour<B: Book>(book: &mut B, hour: u32) -> usize
     ensures { result ≤ 4096 }
 {
-    let mut removed = 0;
-    for _taken in 0..MOST_PLACES {
-        let Some(best) = book.best(hour) else { break };
-        if book.cut(hour, best.energy).is_err() {
-            break;
-        }
-        removed += 1;
+    (0..MOST_PLACES)
+        .take_while(|_| drain_best(book, hour))
+        .count()
+}
+
+// Cuts all the energy of an hour's best order, and answers whether there was one.
+fn drain_best<B: Book>(book: &mut B, hour: u32) -> bool {
+    match book.best(hour) {
+        Some(best) => book.cut(hour, best.energy).is_ok(),
+        None => false,
     }
-    removed
 }

@@ -15,30 +15,39 @@ impl Shown {
     // What stands in the column of a run.
     fn figure(self, run: Run) -> u128 {
         match self {
-            Shown::Counts => u128::from(run.accepted),
+            Shown::Counts => run.accepted as u128,
             Shown::Times => run.time.as_micros(),
         }
     }
 }
 
-/// Prints the names of the columns.
-pub(crate) fn print_header(rt: &impl Print, shown: Shown) -> io::Result<()> {
-    match shown {
-        Shown::Counts => rt.println("kind   orders    filled      cuts   drained"),
-        Shown::Times => rt.println("kind   orders   fill us    cut us  drain us"),
-    }
+/// A table, and where it is printed.
+#[derive(Clone, Copy)]
+pub(crate) struct Table<'a> {
+    pub out: &'a HostRuntime,
+    pub shown: Shown,
 }
 
-/// Prints the line of one book.
-pub(crate) fn print_line(
-    rt: &impl Print,
-    shown: Shown,
-    kind: &str,
-    orders: u32,
-    runs: Runs,
-) -> io::Result<()> {
-    let fill = shown.figure(runs.fill);
-    let cut = shown.figure(runs.cut);
-    let drain = shown.figure(runs.drain);
-    println!(rt; "{kind:<5}{orders:>8}{fill:>10}{cut:>10}{drain:>10}")
+impl Table<'_> {
+    /// Prints the names of the columns.
+    pub(crate) fn print_header(&self) -> io::Result<()> {
+        match self.shown {
+            Shown::Counts => self
+                .out
+                .println("kind   orders    filled      cuts   drained"),
+            Shown::Times => self
+                .out
+                .println("kind   orders   fill us    cut us  drain us"),
+        }
+    }
+
+    /// Prints the line of one book.
+    pub(crate) fn print_line(&self, kind: &str, orders: u32, runs: Runs) -> io::Result<()> {
+        println!(self.out;
+            "{kind:<5}{orders:>8}{:>10}{:>10}{:>10}",
+            self.shown.figure(runs.fill),
+            self.shown.figure(runs.cut),
+            self.shown.figure(runs.drain)
+        )
+    }
 }

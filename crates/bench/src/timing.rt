@@ -1,7 +1,8 @@
 // How long the runs over a book take.
 use crate::runs::{cut, drain, fill};
+use anyhow::anyhow;
 use book::book::Book;
-use sides::side::Side;
+use figures::refusal::Refusal;
 use std::io;
 use std::rt::Clock;
 use std::time::{Duration, Instant};
@@ -9,7 +10,7 @@ use std::time::{Duration, Instant};
 /// A run: how many calls the book accepted, and how long it took.
 #[derive(Clone, Copy)]
 pub struct Run {
-    pub accepted: u32,
+    pub accepted: usize,
     pub time: Duration,
 }
 
@@ -21,23 +22,26 @@ pub struct Runs {
     pub drain: Run,
 }
 
-/// Puts `count` orders into an empty book, makes as many cuts, and empties the book.
-pub(crate) fn time_runs<S: Side, B: Book<S>>(
+/// Puts `count` orders into an empty book that was made, makes as many cuts, and empties the book.
+pub(crate) fn time_runs<B: Book + Drop>(
     clock: &impl Clock,
-    book: &mut B,
+    made: Result<B, Refusal>,
     count: u32,
-) -> io::Result<Runs> {
+) -> anyhow::Result<Runs> {
+    let Ok(mut book) = made else {
+        return Err(anyhow!("there can be no book of so many places"));
+    };
     let start = Instant::now(clock)?;
-    let fill = end_run(clock, start, fill(book, count))?;
+    let fill = end_run(clock, start, fill(&mut book, count))?;
     let start = Instant::now(clock)?;
-    let cut = end_run(clock, start, cut(book, count))?;
+    let cut = end_run(clock, start, cut(&mut book, count))?;
     let start = Instant::now(clock)?;
-    let drain = end_run(clock, start, drain(book))?;
+    let drain = end_run(clock, start, drain(&mut book))?;
     Ok(Runs { fill, cut, drain })
 }
 
 // The run that began at `start` and ends now.
-fn end_run(clock: &impl Clock, start: Instant, accepted: u32) -> io::Result<Run> {
+fn end_run(clock: &impl Clock, start: Instant, accepted: usize) -> io::Result<Run> {
     let time = start.elapsed(clock)?;
     Ok(Run { accepted, time })
 }
