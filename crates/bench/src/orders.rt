@@ -20,7 +20,8 @@ const LIMITS: u32 = 10;
 
 const LIMIT_STEP: i32 = 50_000;
 
-/// The order of the stream that has this serial.
+/// The order of the stream that has this serial. The casts are proved to lose nothing; `try_from` would answer
+/// a `Result`.
 pub(crate) fn order(serial: u32) -> Order {
     let scattered = (u64::from(serial) * FACTOR % PRIME) as u32;
     let level = scattered / LAST_HOUR % LIMITS;

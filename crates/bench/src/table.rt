@@ -12,7 +12,7 @@ pub enum Shown {
 }
 
 impl Shown {
-    // What stands in the column of a run.
+    // What stands in the column of a run. The arguments choose it, when the program runs.
     fn figure(self, run: Run) -> u128 {
         match self {
             Shown::Counts => run.accepted as u128,

@@ -1,4 +1,5 @@
-// The kinds of book.
+// The kinds of book. They are two implementations of one trait, over the same places; a call that both answer
+// alike is one call of `Places`.
 #![tactic(auto)]
 
 pub mod pile;

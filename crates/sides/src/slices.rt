@@ -1,7 +1,7 @@
 // Orders in a slice, found and inserted by rank.
-ghost use Rattle.std.specs.Prelude.{◌≡◌, ◌+◌, ◌<◌, ◌≤◌, ◌++◌, length, take, drop};
-ghost use Rattle.std.specs.List.{insert};
-ghost use Rattle.sides.specs.Listing.{sooner, stands, rank_among, rank_for, ranked_in, room_for, accepted};
+ghost use Rattle.std.specs.Prelude.{◌≡◌, ◌==◌, ◌&&◌, not, ◌+◌, ◌<◌, ◌≤◌, ◌++◌, length, take, drop};
+ghost use Rattle.std.specs.List.{insert, prefix_len};
+ghost use Rattle.sides.specs.Listing.{sooner, stands, rank_for, ranked_in, room_for, accepted};
 
 use crate::ranking::Ranking;
 use figures::order::Order;
@@ -23,24 +23,28 @@ pub fn stands(orders: &[Order], serial: u32) -> bool
 }
 
 /// How many at the start of `orders` are listed before `order`, or none where its serial stands among
-/// them already. One pass, and another up to that rank.
+/// them already. One pass: up to the rank it looks for both, and behind it for the serial.
 pub fn rank<R: Ranking>(orders: &[Order], order: &Order) -> Option<usize>
     ensures { result ≡ rank_for (sooner R.Ranking.first) order.now orders.now }
 {
-    (!stands(orders, order.serial)).then(|| rank_among::<R>(orders, order))
+    let rank = new_and_sooner::<R>(orders, order);
+    let (_, behind) = orders.split_at(rank);
+    (!stands(behind, order.serial)).then_some(rank)
 }
 
-fn rank_among<R: Ranking>(orders: &[Order], order: &Order) -> usize
-    ensures { result ≡ rank_among (sooner R.Ranking.first) order.now orders.now }
+// How many at the start have another serial and are listed before `order`.
+fn new_and_sooner<R: Ranking>(orders: &[Order], order: &Order) -> usize
+    ensures { result ≡ prefix_len (λ x. not (x.serial == order.now.serial) && sooner R.Ranking.first x order.now) orders.now }
 {
     orders
         .iter()
-        .take_while(|other| is_sooner::<R>(other, order))
+        .take_while(|other| other.serial != order.serial && is_sooner::<R>(other, order))
         .count()
 }
 
 /// Inserts `order` by rank among the first `count` orders in `places`, unless no place is left behind
-/// them or its serial stands among them already. One pass, and one shift of the orders behind it.
+/// them or its serial stands among them already. One pass, and one shift of the orders behind it. The count
+/// stands beside the places, since what finds and inserts by rank is to work on any caller's slice.
 pub fn insert<R: Ranking>(places: &mut [Order], count: usize, order: Order) -> Result<(), Reason>
     ensures answer { result ≡ room_for (length places.old) (take count places.old) order }
     ensures after { places.new ≡ accepted result (ranked_in (sooner R.Ranking.first) order (take count places.old) ++ drop (count + 1) places.old) places.old }

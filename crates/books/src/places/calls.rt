@@ -1,4 +1,5 @@
-// What both kinds of book do with their places.
+// What both kinds of book do with their places. That the number of places stays, and that a refusal leaves
+// them as they were, is said of two states, so it stands in the clauses and not in the type.
 ghost use Rattle.std.specs.Prelude.{◌≡◌, ◌<◌, [], ◌∷◌, ◌++◌, length, IfOk, IfSome, filter};
 ghost use Rattle.std.specs.List.{remove, slice_get, find};
 ghost use Rattle.sides.specs.Listing.{accepted, ranked_in, room_for, sooner, StaysRanked, Untouched};
