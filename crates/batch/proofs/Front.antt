@@ -1,21 +1,10 @@
 -- The record that some bytes begin with. Assumes nothing.
-use Rattle.std.proofs.Common.{◌≡◌, ℕ, ◌-◌, ◌≤◌, Bool, true, false, cond, leb, List, [], ◌∷◌, ◌++◌, length, get_or, take, drop, Some, None, Option, sym, refl, ap, ◌∙◌, arith, take-append-drop, take_all, le-leb}
+use Rattle.std.proofs.Common.{◌≡◌, ℕ, ◌≤◌, Bool, true, false, cond, leb, List, [], ◌∷◌, ◌++◌, length, take, drop, Some, None, Option, refl, ap, ◌∙◌, arith, take-append-drop, le-leb}
 use Rattle.figures.specs.declared.refusal.Reason.TheVariants.{CutShort}
 use Rattle.batch.specs.Standing.{end, a_record, field_bytes, behind_mark, refuse, standing}
 
--- the bytes behind the mark, as a slice pattern gives them
-abbrev behind : List ℕ → List ℕ
-behind rest = take (length rest - 2) (drop 2 rest)
-
 pub marked : (place a b n : ℕ) (rest : List ℕ) → field_bytes a b ≡ Some n → n ≤ length rest → a_record place (a ∷ b ∷ take n rest) ≡ standing place (a ∷ b ∷ rest)
 marked place a b n rest known long = rw (known, le-leb n (length rest) long)
-
-pub begins : (place a b n : ℕ) (rest fields : List ℕ) → 2 ≤ length rest → get_or rest 0 0 ≡ a → get_or rest 1 0 ≡ b → field_bytes a b ≡ Some n → n ≤ length (behind rest) → fields ≡ take n (behind rest) → a_record place (a ∷ b ∷ fields) ≡ standing place rest
-begins place a b n [] fields two first second known long is = absurd (omega arith)
-begins place a b n (x ∷ []) fields two first second known long is = absurd (omega arith)
-begins place a b n (x ∷ y ∷ rest) fields two first second known long is =
-    let all : behind (x ∷ y ∷ rest) ≡ rest = take_all _ rest (omega arith) in
-    ap (λ f. a_record place (a ∷ b ∷ f)) (is ∙ ap (take n) all) ∙ marked place a b n rest known (rw all at long) ∙ sym (λ i. standing place (first i ∷ second i ∷ rest))
 
 -- a record that stands at a place is what the bytes from there on begin with
 pub splits : (place at : ℕ) (rest bytes : List ℕ) → a_record at bytes ≡ standing place rest → (at ≡ place) × ((tail : List ℕ) × (bytes ++ tail ≡ rest))

@@ -1,4 +1,3 @@
 pub mod Front
 pub mod Steps
 pub mod Unique
-pub mod Words

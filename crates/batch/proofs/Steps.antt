@@ -1,5 +1,5 @@
 -- What a turn of `read_all` keeps, and what its end gives. Assumes nothing.
-use Rattle.std.proofs.Common.{◌≡◌, ℕ, ◌+◌, ◌-◌, ◌*◌, ◌/◌, ◌<◌, ◌≤◌, List, [], ◌∷◌, ◌++◌, length, drop, Some, Ok, Err, Result, sym, refl, ap, ◌∙◌, subst, append_assoc, append-nil, add-zero, add_assoc, arith, length-append, length-drop, drop-drop}
+use Rattle.std.proofs.Common.{◌≡◌, ℕ, ◌+◌, ◌*◌, ◌≤◌, List, [], ◌∷◌, ◌++◌, length, drop, Some, Ok, Err, Result, sym, refl, ap, ◌∙◌, subst, append_assoc, append-nil, add-zero, add_assoc, arith, length-append, drop-drop}
 use mathlib.Core.List.{map-append}
 use lib.Seq.{drop-append_seam}
 use Rattle.std.specs.List.{AllByRecursion}
@@ -11,7 +11,7 @@ use Rattle.batch.specs.declared.request.Entry.{Entry}
 use Rattle.batch.specs.declared.request.Request.{Request}
 use Rattle.batch.specs.declared.request.Request.TheVariants.{Bid, Ask, MarketBid, MarketAsk, Withdrawal}
 use Rattle.batch.specs.declared.unread.Unread.{Unread}
-use Rattle.batch.specs.declared.unread.Unread.TheVariants.{Unreadable, NoMemory}
+use Rattle.batch.specs.declared.unread.Unread.TheVariants.{Unreadable}
 use Rattle.batch.specs.Layout.{layout, layouts, Fitting}
 use Rattle.batch.specs.Reading.{ahead, here}
 use Rattle.batch.specs.Records.{bytes}
@@ -83,17 +83,6 @@ module _ {batch : List ℕ} {es : List Entry} {reader : Reader} (s : Sofar batch
   pub so_far : Front batch es (ahead reader)
   so_far = record { bytes = s.bytes; fitting = s.fitting; placed = s.placed }
 
-  -- there is one more record than entries, and each has seven bytes
-  pub fewer : (found : Found) (q : Request) → told (Ok (Some found)) ≡ here reader → layout q ≡ bytes found.«record» → length es < length batch / 7
-  fewer found q stands is =
-      let split = splits reader.place found.place (ahead reader) (layout q) (ap (a_record found.place) is ∙ stands) in
-      let long : length (layout q) + length split.1.0 ≡ length batch - reader.place = sym (length-append (layout q) split.1.0) ∙ ap length split.1.1 ∙ length-drop reader.place reader.batch.now ∙ ap (λ l. length l - reader.place) s.same in
-      omega (arith, s.few, seven q)
-
-  -- no memory for one entry more
-  pub wanting : (items : List Entry) (r : Result (Unit {0}) Unread) → items ≡ es → r ≡ Err NoMemory → Reads batch items r
-  wanting items r same is = subst (Reads batch items) (sym is) (ahead reader, subst (λ l. Front batch l (ahead reader)) (sym same) so_far)
-
   -- the end of the batch
   pub ended : end ≡ here reader → ReadToEnd batch es
   ended stands =
@@ -119,6 +108,3 @@ module _ {batch : List ℕ} {es : List Entry} {reader : Reader} (s : Sofar batch
     where
       never : (qs : List Request) → Behind (asked es) qs (ahead reader) → ⊥
       never qs b = not_layouts refusal reader.place b.left (stands ∙ ap (standing reader.place) b.bytes)
-
-pub no_want : (r : Result (Unit {0}) Unread) (refusal : Refusal) → r ≡ Err (Unreadable refusal) → r ≡ Err NoMemory → ⊥
-no_want r refusal is bad = let z : ◌≡◌ {A = ℕ} 0 1 = cc in omega arith

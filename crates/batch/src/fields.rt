@@ -1,7 +1,8 @@
 // The fields of a record, read from the bytes behind its mark. Every number is big-endian.
-ghost use Rattle.std.specs.Prelude.{◌≡◌};
-ghost use Rattle.batch.specs.Layout.{word};
+ghost use Rattle.std.specs.Prelude.{◌≡◌, ◌+◌, ◌≤◌, length};
+ghost use Rattle.batch.specs.Layout.{bytes_at, word};
 
+// Three structs and not one over a length N: what can be read differs, and each accessor would owe a `requires` on N.
 mod limit;
 mod order;
 mod withdrawal;
@@ -10,10 +11,11 @@ pub use limit::LimitFields;
 pub use order::OrderFields;
 pub use withdrawal::WithdrawalFields;
 
-// The number that four bytes spell, highest first.
-fn number(bytes: &[u8; 4]) -> u32
-    ensures { bytes.now ≡ word result }
+// The number that the four bytes from `at` on spell, highest first.
+fn number_at(bytes: &[u8], at: usize) -> u32
+    requires { at + 4 ≤ length bytes.now }
+    ensures { bytes_at at 4 bytes.now ≡ word result }
 {
-    let [a, b, c, d] = bytes;
-    u32::from_be_bytes([*a, *b, *c, *d])
+    let (_, ahead) = bytes.split_at(at);
+    u32::from_be_bytes(*ahead.first_chunk().unwrap())
 }

@@ -25,6 +25,7 @@ pub struct Found<'a> {
 
 impl Record<'_> {
     /// The number of its bytes, mark included.
+    // Three numbers and not `2 + fields.len()`: only a helper over a slice would prove this of the bytes.
     pub fn size(self) -> usize
         ensures { result ≡ size self.entry }
     {

@@ -33,9 +33,11 @@ impl fmt::Display for Terms {
     ghost output = { λ terms. Some (terms_text terms) };
 
     fn fmt<W: fmt::Write>(&self, f: &mut fmt::Formatter<W>) -> fmt::Result {
-        let member = self.member;
-        let hour = self.hour;
-        let energy = self.energy;
+        let Terms {
+            member,
+            hour,
+            energy,
+        } = self;
         write!(f, "{member} {hour} {energy}")
     }
 }

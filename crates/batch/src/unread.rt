@@ -12,6 +12,7 @@ pub enum Unread {
     NoMemory,
 }
 
+// By hand, since `reads` of `read_all` names what its `?` makes, and a derive has no `from_gives`.
 impl From<Refusal> for Unread {
     ghost from_gives = { λ refusal r. r ≡ Unreadable refusal };
 
@@ -20,6 +21,7 @@ impl From<Refusal> for Unread {
     }
 }
 
+// By hand likewise, for `room` of `read_all`.
 impl<T: Drop> From<AllocFailed<T>> for Unread {
     ghost from_gives = { λ _ r. r ≡ NoMemory };
 

@@ -4,6 +4,7 @@ ghost use Rattle.batch.specs.Whole.{Reads};
 ghost use Rattle.batch.specs.declared.unread.Unread.TheVariants.{NoMemory};
 
 use crate::reader::Reader;
+use crate::record::Found;
 use crate::request::Entry;
 use crate::unread::Unread;
 
@@ -15,10 +16,10 @@ pub fn read_all(batch: &[u8], entries: &mut Vec<Entry>) -> Result<(), Unread>
 {
     entries.clear();
     let mut reader = Reader::new(batch);
-    while let Some(found) = reader.next()? {
+    while let Some(Found { place, record }) = reader.next()? {
         entries.push(Entry {
-            place: found.place,
-            request: found.record.request(),
+            place,
+            request: record.request(),
         })?;
     }
     Ok(())

@@ -2,7 +2,7 @@
 ghost use Rattle.std.specs.Prelude.{◌≡◌, [], ◌∷◌, take, drop};
 ghost use Rattle.batch.specs.Layout.{bytes_at, word, terms_layout, FittingTerms};
 
-use crate::fields::number;
+use crate::fields::number_at;
 use crate::request::Terms;
 
 /// Member (1 byte), hour (4) and energy (4).
@@ -20,15 +20,15 @@ impl OrderFields<'_> {
     pub fn hour(self) -> u32
         ensures { bytes_at 1 4 self.entry.0.now ≡ word result }
     {
-        let [_, a, b, c, d, ..] = self.0;
-        u32::from_be_bytes([*a, *b, *c, *d])
+        let fields = self.0;
+        number_at(fields, 1)
     }
 
     pub fn energy(self) -> u32
         ensures { drop 5 self.entry.0.now ≡ word result }
     {
         let fields = self.0;
-        number(fields.last_chunk::<4>().unwrap())
+        number_at(fields, 5)
     }
 
     /// All three.

@@ -2,13 +2,14 @@
 ghost use Rattle.std.specs.Prelude.{◌≡◌, [], ◌∷◌, take, drop};
 ghost use Rattle.batch.specs.Layout.{word};
 
-use crate::fields::number;
+use crate::fields::number_at;
 
 /// Member (1 byte) and serial (4).
 #[derive(Clone, Copy)]
 pub struct WithdrawalFields<'a>(pub &'a [u8; 5]);
 
 impl WithdrawalFields<'_> {
+    // As in `OrderFields`: one function over any length would have to require that a byte is there.
     pub fn member(self) -> u8
         ensures { take 1 self.entry.0.now ≡ result ∷ [] }
     {
@@ -20,6 +21,6 @@ impl WithdrawalFields<'_> {
         ensures { drop 1 self.entry.0.now ≡ word result }
     {
         let fields = self.0;
-        number(fields.last_chunk::<4>().unwrap())
+        number_at(fields, 1)
     }
 }

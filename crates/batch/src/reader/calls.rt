@@ -26,7 +26,7 @@ impl<'a> Reader<'a> {
     {
         let place = self.place;
         let batch = self.batch;
-        let (_, ahead) = batch.split_at(place);
+        let ahead = &batch[place..];
         if ahead.is_empty() {
             return Ok(None);
         }
