@@ -1,7 +1,7 @@
 -- What a turn of `read_all` keeps, and what its end gives. Assumes nothing.
-use Rattle.std.proofs.Common.{◌≡◌, ℕ, ◌+◌, ◌*◌, ◌≤◌, List, [], ◌∷◌, ◌++◌, length, drop, Some, Ok, Err, Result, sym, refl, ap, ◌∙◌, subst, append_assoc, append-nil, add-zero, add_assoc, arith, length-append, drop-drop}
+use Rattle.std.proofs.Common.{◌≡◌, ℕ, ◌+◌, ◌*◌, ◌≤◌, List, [], ◌∷◌, ◌++◌, length, drop, Some, Ok, Err, Result, sym, refl, ap, ◌∙◌, subst, append_assoc, append-nil, add-zero, arith, length-append, drop-drop}
 use mathlib.Core.List.{map-append}
-use lib.Seq.{drop-append_seam}
+use Rattle.std.proofs.lemmas.List.{flat_map_more}
 use Rattle.std.specs.List.{AllByRecursion}
 use Rattle.std.proofs.ByRecursion.{All-push}
 use Rattle.figures.specs.declared.refusal.Refusal.{Refusal}
@@ -9,16 +9,15 @@ use Rattle.batch.specs.declared.reader.Reader.{Reader}
 use Rattle.batch.specs.declared.record.Found.{Found}
 use Rattle.batch.specs.declared.request.Entry.{Entry}
 use Rattle.batch.specs.declared.request.Request.{Request}
-use Rattle.batch.specs.declared.request.Request.TheVariants.{Bid, Ask, MarketBid, MarketAsk, Withdrawal}
 use Rattle.batch.specs.declared.unread.Unread.{Unread}
 use Rattle.batch.specs.declared.unread.Unread.TheVariants.{Unreadable}
 use Rattle.batch.specs.Layout.{layout, layouts, Fitting}
 use Rattle.batch.specs.Reading.{ahead, here}
 use Rattle.batch.specs.Records.{bytes}
 use Rattle.batch.specs.Standing.{end, a_record, unreadable, standing, step, told}
-use Rattle.batch.specs.Whole.{asked, Placed, ReadToEnd, Front, Reads}
+use Rattle.batch.specs.Whole.{asked, Placed, ReadToEnd, Reads}
 use Rattle.batch.proofs.Front.{splits, at_end}
-use Rattle.batch.proofs.Unique.{stands, some_bytes, Behind, behind}
+use Rattle.batch.proofs.Unique.{seven, stands, some_bytes, Behind, behind}
 
 -- the entries are the records before the reader, one after another
 pub record Sofar (batch : List ℕ) (entries : List Entry) (reader : Reader) : Type 0 where
@@ -29,34 +28,21 @@ pub record Sofar (batch : List ℕ) (entries : List Entry) (reader : Reader) : T
   pub placed : Placed 0 entries
   pub few : 7 * length entries ≤ reader.place
 
-layouts_push : (rs : List Request) (r : Request) → layouts (rs ++ r ∷ []) ≡ layouts rs ++ layout r
-layouts_push [] r = append-nil (layout r)
-layouts_push (q ∷ rs) r = ap (λ l. layout q ++ l) (layouts_push rs r) ∙ sym (append_assoc (layout q) (layouts rs) (layout r))
-
 placed_push : (at : ℕ) (es : List Entry) (e : Entry) → Placed at es → e.place ≡ at + length (layouts (asked es)) → Placed at (es ++ e ∷ [])
 placed_push at [] e p is = (is ∙ add-zero at, tt)
 placed_push at (f ∷ es) e p is =
-    (p.0, placed_push (at + length (layout f.request)) es e p.1 (is ∙ ap (λ n. at + n) (length-append (layout f.request) (layouts (asked es))) ∙ sym (add_assoc at (length (layout f.request)) (length (layouts (asked es))))))
-
-seven : (q : Request) → 7 ≤ length (layout q)
-seven (Bid t l) = omega arith
-seven (Ask t l) = omega arith
-seven (MarketBid t) = omega arith
-seven (MarketAsk t) = omega arith
-seven (Withdrawal m s) = omega arith
+    let long = simp length-append at is in
+    (p.0, placed_push (at + length (layout f.request)) es e p.1 (omega arith))
 
 none_left : (qs : List Request) → [] ≡ layouts qs → qs ≡ []
 none_left [] e = refl
 none_left (q ∷ qs) e = absurd (some_bytes q (layouts qs) (sym e))
 
 no_record : (refusal : Refusal) (place : ℕ) (q : Request) (tail : List ℕ) → unreadable refusal ≡ standing place (layout q ++ tail) → ⊥
-no_record refusal place q tail e =
-    let told : unreadable refusal ≡ a_record place (layout q) = e ∙ stands place q tail in
-    let z : ◌≡◌ {A = ℕ} 0 1 = cc in
-    omega arith
+no_record refusal place q tail e = cc (stands place q tail)
 
 not_layouts : (refusal : Refusal) (place : ℕ) (qs : List Request) → unreadable refusal ≡ standing place (layouts qs) → ⊥
-not_layouts refusal place [] e = let z : ◌≡◌ {A = ℕ} 0 1 = cc in omega arith
+not_layouts refusal place [] e = cc
 not_layouts refusal place (q ∷ qs) e = no_record refusal place q (layouts qs) e
 
 module _ {batch : List ℕ} {es : List Entry} {reader : Reader} (s : Sofar batch es reader) where
@@ -66,22 +52,18 @@ module _ {batch : List ℕ} {es : List Entry} {reader : Reader} (s : Sofar batch
       let e : Entry = record { place = found.place; request = q } in
       let front = layout q in
       let split = splits reader.place found.place (ahead reader) front (ap (a_record found.place) is ∙ stands) in
-      let tail = split.1.0 in
       let steps : next.place ≡ reader.place + length front = moved ∙ ap (λ t. reader.place + step t) (sym stands) ∙ ap (λ l. reader.place + length l) (sym is) in
       let asks : asked (es ++ e ∷ []) ≡ asked es ++ q ∷ [] = map-append _ es (e ∷ []) in
-      let all : layouts (asked (es ++ e ∷ [])) ≡ layouts (asked es) ++ front = ap layouts asks ∙ layouts_push (asked es) q in
-      let left : ahead next ≡ tail = (λ i. drop (steps i) (same i)) ∙ sym (drop-drop (length front) reader.place reader.batch.now) ∙ ap (drop (length front)) (sym split.1.1) ∙ drop-append_seam front tail in
+      let all : layouts (asked (es ++ e ∷ [])) ≡ layouts (asked es) ++ front = ap layouts asks ∙ sym (flat_map_more layout [] (asked es) q) in
+      let left : ahead next ≡ drop (length front) (ahead reader) = (λ i. drop (steps i) (same i)) ∙ sym (drop-drop (length front) reader.place reader.batch.now) in
       subst (λ l. Sofar batch l next) (sym pushed) (record {
         same = same ∙ s.same;
-        bytes = (λ i. all i ++ left i) ∙ append_assoc (layouts (asked es)) front tail ∙ ap (λ l. layouts (asked es) ++ l) split.1.1 ∙ s.bytes;
+        bytes = (λ i. all i ++ left i) ∙ append_assoc (layouts (asked es)) front _ ∙ ap (λ l. layouts (asked es) ++ l) split.1 ∙ s.bytes;
         reached = ap length all ∙ length-append (layouts (asked es)) front ∙ ap (λ n. n + length front) s.reached ∙ sym steps;
         fitting = subst (AllByRecursion Fitting) (sym asks) (All-push Fitting (asked es) q s.fitting fits);
         placed = placed_push 0 es e s.placed (split.0 ∙ omega (arith, s.reached));
         few = simp length-append (omega (arith, s.few, seven q, steps));
       })
-
-  pub so_far : Front batch es (ahead reader)
-  so_far = record { bytes = s.bytes; fitting = s.fitting; placed = s.placed }
 
   -- the end of the batch
   pub ended : end ≡ here reader → ReadToEnd batch es
@@ -100,7 +82,7 @@ module _ {batch : List ℕ} {es : List Entry} {reader : Reader} (s : Sofar batch
   pub stuck : (refusal : Refusal) (r : Result (Unit {0}) Unread) → unreadable refusal ≡ here reader → r ≡ Err (Unreadable refusal) → Reads batch es r
   stuck refusal r stands is = subst (Reads batch es) (sym is) (record {
     rest = ahead reader;
-    front = so_far;
+    front = record { bytes = s.bytes; fitting = s.fitting; placed = s.placed };
     none = λ q tail fits e. no_record refusal reader.place q tail (stands ∙ ap (standing reader.place) (sym e));
     never = λ qs h. never qs (behind (asked es) qs (ahead reader) s.fitting h.fitting (s.bytes ∙ sym h.bytes));
     why = ap (λ n. standing n (ahead reader)) s.reached ∙ sym stands;

@@ -1,14 +1,13 @@
 -- A batch holds at most one list of requests. Assumes nothing.
-use Rattle.std.proofs.Common.{◌≡◌, ℕ, ◌+◌, ◌*◌, ◌/◌, ◌%◌, cond, ◌&&◌, eqb, List, [], ◌∷◌, ◌++◌, get_or, ℤ, sym, refl, ap, ◌∙◌, append_assoc, arith, to_z-of_z, w32, SFits, to_z, of_z}
+use Rattle.std.proofs.Common.{◌≤◌, length, length-append, rules, ◌≡◌, ℕ, ◌+◌, ◌*◌, ◌/◌, ◌%◌, cond, ◌&&◌, eqb, List, [], ◌∷◌, ◌++◌, get_or, ℤ, sym, refl, ap, ◌∙◌, append_assoc, arith, to_z-of_z, w32, SFits, to_z, of_z}
 use mathlib.Core.List.{append_cancel_left}
 use native.Mathlib.Nat.{div-div-eq-div-mul}
 use Rattle.batch.specs.declared.request.Request.{Request}
 use Rattle.batch.specs.declared.request.Request.TheVariants.{Bid, Ask, MarketBid, MarketAsk, Withdrawal}
 use Rattle.batch.specs.declared.request.Terms.{Terms}
 use Rattle.std.specs.List.{AllByRecursion}
-use Rattle.batch.specs.Layout.{word, signed_word, terms_layout, layout, layouts, Fitting}
+use Rattle.batch.specs.Layout.{layout, layouts, Fitting}
 use Rattle.batch.specs.Standing.{a_record, standing}
-use Rattle.batch.proofs.Front.{marked}
 
 -- the number that four bytes of a list spell
 abbrev number : ℕ → List ℕ → ℕ
@@ -48,11 +47,11 @@ of_layout (Withdrawal m s) f = λ i. Withdrawal m (spelled s i)
 
 -- a record stands where its bytes begin
 pub stands : (place : ℕ) (q : Request) (tail : List ℕ) → standing place (layout q ++ tail) ≡ a_record place (layout q)
-stands place (Bid t l) tail = sym (marked place 0x4F 0x42 13 ((terms_layout t ++ signed_word l) ++ tail) refl (omega arith))
-stands place (Ask t l) tail = sym (marked place 0x4F 0x41 13 ((terms_layout t ++ signed_word l) ++ tail) refl (omega arith))
-stands place (MarketBid t) tail = sym (marked place 0x4D 0x42 9 (terms_layout t ++ tail) refl (omega arith))
-stands place (MarketAsk t) tail = sym (marked place 0x4D 0x41 9 (terms_layout t ++ tail) refl (omega arith))
-stands place (Withdrawal m s) tail = sym (marked place 0x4F 0x57 5 ((m ∷ word s) ++ tail) refl (omega arith))
+stands place (Bid t l) tail = search rules
+stands place (Ask t l) tail = search rules
+stands place (MarketBid t) tail = search rules
+stands place (MarketAsk t) tail = search rules
+stands place (Withdrawal m s) tail = search rules
 
 -- two lists of bytes that are the same begin with the same record
 pub same_first : (p q : Request) (x y : List ℕ) → Fitting p → Fitting q → layout p ++ x ≡ layout q ++ y → (p ≡ q) × (x ≡ y)
@@ -62,12 +61,18 @@ same_first p q x y fp fq e =
     let tails : layout p ++ x ≡ layout p ++ y = e ∙ ap (λ l. l ++ y) (sym bytes) in
     (sym (of_layout p fp) ∙ ap request bytes ∙ of_layout q fq, append_cancel_left (layout p) x y tails)
 
+-- the shortest record has seven bytes
+pub seven : (q : Request) → 7 ≤ length (layout q)
+seven (Bid t l) = omega arith
+seven (Ask t l) = omega arith
+seven (MarketBid t) = omega arith
+seven (MarketAsk t) = omega arith
+seven (Withdrawal m s) = omega arith
+
 pub some_bytes : (q : Request) (tail : List ℕ) → layout q ++ tail ≡ [] → ⊥
-some_bytes (Bid t l) tail e = absurd (let z : ◌≡◌ {A = ℕ} 0 1 = cc in omega arith)
-some_bytes (Ask t l) tail e = absurd (let z : ◌≡◌ {A = ℕ} 0 1 = cc in omega arith)
-some_bytes (MarketBid t) tail e = absurd (let z : ◌≡◌ {A = ℕ} 0 1 = cc in omega arith)
-some_bytes (MarketAsk t) tail e = absurd (let z : ◌≡◌ {A = ℕ} 0 1 = cc in omega arith)
-some_bytes (Withdrawal m s) tail e = absurd (let z : ◌≡◌ {A = ℕ} 0 1 = cc in omega arith)
+some_bytes q tail e =
+    let long = simp length-append at (ap length e) in
+    omega (arith, seven q)
 
 -- behind the records of ps stand the records of what is left of qs
 pub record Behind (ps qs : List Request) (rest : List ℕ) : Type 0 where

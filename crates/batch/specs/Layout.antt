@@ -1,6 +1,7 @@
 -- The bytes of a batch: what each request is written as. Assumes nothing.
 use Rattle.std.specs.Prelude.{ℕ, ◌/◌, ◌%◌, ◌^◌, ◌<◌, List, [], ◌∷◌, ◌++◌, take, drop, ℤ, FitsSigned}
 use Rattle.std.specs.Int.{w32, cast_unsigned}
+use Rattle.std.specs.List.{flat_map}
 use Rattle.batch.specs.declared.request.Terms.{Terms}
 use Rattle.batch.specs.declared.request.Request.{Request}
 use Rattle.batch.specs.declared.request.Request.TheVariants.{Bid, Ask, MarketBid, MarketAsk, Withdrawal}
@@ -28,8 +29,7 @@ layout (Withdrawal member serial) = withdrawal_mark ++ (member ∷ word serial)
 
 -- the records of a batch, one after another
 abbrev pub layouts : List Request → List ℕ
-layouts [] = []
-layouts (r ∷ rs) = layout r ++ layouts rs
+layouts requests = flat_map layout requests
 
 -- every number of a request fits its field
 abbrev pub FittingTerms : Terms → Type 0

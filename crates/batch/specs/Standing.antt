@@ -1,5 +1,6 @@
 -- What stands at a place of a batch. Assumes nothing.
 use Rattle.std.specs.Prelude.{◌≡◌, ℕ, ◌≤◌, Bool, false, cond, ◌&&◌, List, [], ◌∷◌, length, take, Some, None, Ok, Err, Option, Result, ◌==◌, nat_le}
+use Rattle.figures.specs.Refusals.{refused_by}
 use Rattle.figures.specs.declared.refusal.Part.TheVariants.{Reader}
 use Rattle.figures.specs.declared.refusal.Reason.{Reason}
 use Rattle.figures.specs.declared.refusal.Reason.TheVariants.{UnknownMark, CutShort}
@@ -31,7 +32,7 @@ field_bytes a b =
     (cond (are_mark withdrawal_mark a b) (Some 5) None))))
 
 abbrev pub refuse : Reason → Standing
-refuse why = unreadable (record { part = Reader; reason = why })
+refuse why = unreadable (refused_by Reader why)
 
 abbrev pub behind_mark : Option ℕ → ℕ → ℕ → ℕ → List ℕ → Standing
 behind_mark None place a b rest = refuse (UnknownMark place)

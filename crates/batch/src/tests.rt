@@ -4,7 +4,6 @@ use crate::request::*;
 use crate::unread::*;
 use crate::whole::read_all;
 use figures::refusal::*;
-use std::test::Fail;
 
 // One record of each kind: bid, ask, market bid, market ask, withdrawal.
 const SAMPLE: &[u8; 59] = b"\
@@ -26,17 +25,14 @@ fn terms(member: u8, hour: u32, energy: u32) -> Terms {
 }
 
 fn stops(reason: Reason) -> Result<(), Unread> {
-    Err(Unread::Unreadable(Refusal {
-        part: Part::Reader,
-        reason,
-    }))
+    Err(reason.refused_by(Part::Reader).into())
 }
 
 #[test]
 fn every_kind_is_read(rt: HostRuntime) {
     let mut entries = Vec::new(rt.alloc());
     assert_eq!(rt; read_all(SAMPLE, &mut entries), Ok(()));
-    let found = [
+    let requests = [
         Request::Bid {
             terms: terms(0, 101, 5000),
             limit: 4500,
@@ -57,25 +53,23 @@ fn every_kind_is_read(rt: HostRuntime) {
         },
     ];
     assert_eq!(rt; entries.len(), 5);
-    for (i, entry) in entries.iter().enumerate() {
-        assert!(rt; i < 5);
-        assert_eq!(rt; entry.place, STARTS[i]);
-        assert_eq!(rt; entry.request, found[i]);
+    for ((entry, place), request) in entries.iter().zip(&STARTS).zip(&requests) {
+        assert_eq!(rt; entry.place, *place);
+        assert_eq!(rt; entry.request, *request);
     }
 }
 
 #[test]
 fn every_prefix_ends_at_a_record_or_is_cut_short(rt: HostRuntime) {
     let mut entries = Vec::new(rt.alloc());
-    let sample = *SAMPLE;
     let mut start = 0;
-    for n in 0..59usize {
+    for n in 0..SAMPLE.len() {
         if STARTS.contains(&n) {
             start = n;
-            assert_eq!(rt; read_all(&sample[0..n], &mut entries), Ok(()));
+            assert_eq!(rt; read_all(&SAMPLE[..n], &mut entries), Ok(()));
         } else {
             let cut = stops(Reason::CutShort { place: start });
-            assert_eq!(rt; read_all(&sample[0..n], &mut entries), cut);
+            assert_eq!(rt; read_all(&SAMPLE[..n], &mut entries), cut);
         }
     }
 }
@@ -83,8 +77,7 @@ fn every_prefix_ends_at_a_record_or_is_cut_short(rt: HostRuntime) {
 #[test]
 fn a_wrong_mark_stops_at_its_record(rt: HostRuntime) {
     let mut entries = Vec::new(rt.alloc());
-    for (i, start) in STARTS.iter().enumerate() {
-        let place = *start;
+    for (i, &place) in STARTS.iter().enumerate() {
         assert!(rt; place < 58);
         for at in place..place + 2 {
             let mut batch = *SAMPLE;
@@ -130,17 +123,11 @@ fn marks_inside_fields_are_fields(rt: HostRuntime) {
 }
 
 #[test]
-fn a_refusal_leaves_the_reader_where_it_stood(rt: HostRuntime) -> Result<(), Fail> {
+fn a_refusal_leaves_the_reader_where_it_stood(rt: HostRuntime) {
     let mut reader = Reader::new(&[0x4F, 0x57, 1, 0, 0, 0, 2, 0x4F, 0x58]);
     assert!(rt; reader.next().is_ok());
     for _ in 0..3 {
-        match reader.next() {
-            Ok(_) => return Err(Fail::new("a record where there is none")),
-            Err(refusal) => {
-                assert_eq!(rt; refusal.part, Part::Reader);
-                assert_eq!(rt; refusal.reason, Reason::UnknownMark { place: 7 });
-            }
-        }
+        let refusal = Reason::UnknownMark { place: 7 }.refused_by(Part::Reader);
+        assert_eq!(rt; reader.next().err(), Some(refusal));
     }
-    Ok(())
 }

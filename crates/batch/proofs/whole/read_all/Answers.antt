@@ -12,4 +12,4 @@ loop-place-preserved c =
     (more, search rules)
 
 pub returns-clause-reads : goal.returns-clause-reads
-returns-clause-reads c = search (rules, ended)
+returns-clause-reads c = ended c.loop-place.invariant.0 (search rules)
