@@ -1,6 +1,7 @@
 -- What each line of the listing says. Assumes nothing.
 use Rattle.std.specs.Prelude.{ℕ, List, [], ◌∷◌, ◌++◌, codes, decimal}
 use Rattle.std.specs.Fmt.{signed_decimal}
+use Rattle.std.specs.List.{flat_map}
 use Rattle.figures.specs.Refusals.{notice}
 use Rattle.batch.specs.Texts.{request_text}
 use Rattle.callmarket.specs.declared.line.Line.{Line}
@@ -14,5 +15,4 @@ line_text TooLong = codes "TOO LONG"
 
 -- lines, each with the end of the line behind it
 abbrev pub page : List Line → List ℕ
-page [] = []
-page (line ∷ lines) = line_text line ++ (10 ∷ page lines)
+page lines = flat_map (λ line. line_text line ++ (10 ∷ [])) lines

@@ -21,15 +21,9 @@ impl fmt::Display for Line {
     fn fmt<W: fmt::Write>(&self, f: &mut fmt::Formatter<W>) -> fmt::Result {
         match self {
             Line::Call { hour } => write!(f, "CALL {hour}"),
-            Line::Listed(entry) => {
-                let place = entry.place;
-                let request = entry.request;
-                write!(f, "RECORD {place} {request}")
-            }
-            Line::Unreadable(refusal) => {
-                let place = refusal.reason.figure();
-                let number = refusal.reason.number();
-                write!(f, "UNREADABLE {place} {number}")
+            Line::Listed(Entry { place, request }) => write!(f, "RECORD {place} {request}"),
+            Line::Unreadable(Refusal { reason, .. }) => {
+                write!(f, "UNREADABLE {} {}", reason.figure(), reason.number())
             }
             Line::TooLong => write!(f, "TOO LONG"),
         }

@@ -1,7 +1,6 @@
 // What the program says of its input, line by line.
-ghost use Rattle.std.specs.Prelude.{◌≡◌, ◌++◌, map, IfOk, OnOk};
+ghost use Rattle.std.specs.Prelude.{IfOk, OnOk};
 ghost use Rattle.callmarket.specs.Listing.{Lists, Ended, Says};
-ghost use Rattle.callmarket.specs.declared.line.Line.TheVariants.{Listed};
 
 use crate::line::Line;
 use batch::request::Entry;
@@ -23,11 +22,10 @@ pub fn listing(heap: Global, input: &[u8]) -> Result<Vec<Line>, AllocError>
     ensures { IfOk result (λ lines. Says input.now lines.items) }
 {
     if input.len() <= LONGEST {
-        return list_batch(heap, input);
+        list_batch(heap, input)
+    } else {
+        Ok(vec![in heap; Line::TooLong]?)
     }
-    let mut lines = Vec::new(heap);
-    lines.push(Line::TooLong)?;
-    Ok(lines)
 }
 
 // A line for the call, one for each record, and one for the first place at which there is no
@@ -37,21 +35,10 @@ fn list_batch(heap: Global, batch: &[u8]) -> Result<Vec<Line>, AllocError>
 {
     let mut entries = Vec::with_capacity(heap, batch.len() / SHORTEST)?;
     let end = read_all(batch, &mut entries);
-    let mut lines = Vec::new(heap);
-    lines.push(Line::Call { hour: OPENING_HOUR })?;
-    add_records(&mut lines, entries.as_slice())?;
+    let mut lines = vec![in heap; Line::Call { hour: OPENING_HOUR }]?;
+    lines.extend(entries.into_iter().map(Line::Listed))?;
     add_end(&mut lines, end)?;
     Ok(lines)
-}
-
-// Adds a line for each entry.
-fn add_records(lines: &mut Vec<Line>, entries: &[Entry]) -> Result<(), AllocError>
-    ensures { OnOk result (lines.new.items ≡ lines.old.items ++ map Listed entries.now) }
-{
-    for entry in entries {
-        lines.push(Line::Listed(*entry))?;
-    }
-    Ok(())
 }
 
 // Adds a line for the place at which reading stopped, if it did.
@@ -59,9 +46,8 @@ fn add_end(lines: &mut Vec<Line>, end: Result<(), Unread>) -> Result<(), AllocEr
     ensures { OnOk result (Ended end lines.old.items lines.new.items) }
 {
     match end {
-        Ok(()) => {}
-        Err(Unread::Unreadable(refusal)) => lines.push(Line::Unreadable(refusal))?,
-        Err(Unread::NoMemory) => return Err(AllocError),
+        Ok(()) => Ok(()),
+        Err(Unread::Unreadable(refusal)) => Ok(lines.push(Line::Unreadable(refusal))?),
+        Err(Unread::NoMemory) => Err(AllocError),
     }
-    Ok(())
 }

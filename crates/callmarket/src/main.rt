@@ -15,14 +15,10 @@ use std::io;
 use std::io::Read;
 
 fn main(rt: HostRuntime) -> anyhow::Result<()> {
-    run(&rt)
-}
-
-fn run(rt: &HostRuntime) -> anyhow::Result<()> {
     let heap = rt.alloc();
-    let bytes = read_input(heap, rt.stdin())?;
-    let text = output(heap, bytes.as_slice())?;
-    rt.print(text.as_str())?;
+    let input = read_input(heap, rt.stdin())?;
+    let text = output(heap, &input)?;
+    print!(rt; "{text}")?;
     Ok(())
 }
 

@@ -11,6 +11,5 @@ pub fn output(heap: Global, input: &[u8]) -> anyhow::Result<String>
     ensures { IfOk result (λ text. Output input.now (string_bytes text)) }
 {
     let lines = listing(heap, input)?;
-    let text = print_page(heap, lines.as_slice())?;
-    Ok(text)
+    Ok(print_page(heap, &lines)?)
 }

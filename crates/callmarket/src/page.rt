@@ -1,6 +1,6 @@
 // The text of some lines.
-ghost use Rattle.std.specs.Prelude.{◌≡◌, [], ◌∷◌, ◌++◌, IfOk, string_bytes, OnOk};
-ghost use Rattle.callmarket.specs.Lines.{line_text, page};
+ghost use Rattle.std.specs.Prelude.{◌≡◌, IfOk, string_bytes};
+ghost use Rattle.callmarket.specs.Lines.{page};
 
 use crate::line::Line;
 use std::alloc::{AllocError, Global};
@@ -11,14 +11,7 @@ pub fn print_page(heap: Global, lines: &[Line]) -> Result<String, AllocError>
 {
     let mut text = String::new(heap);
     for line in lines {
-        add_line(&mut text, *line)?;
+        writeln!(text, "{line}")?;
     }
     Ok(text)
-}
-
-// Adds a line and its end.
-fn add_line(text: &mut String, line: Line) -> Result<(), AllocError>
-    ensures { OnOk result (string_bytes text.new ≡ string_bytes text.old ++ (line_text line ++ (10 ∷ []))) }
-{
-    writeln!(text, "{line}")
 }
