@@ -1,7 +1,6 @@
 -- A batch holds at most one list of requests. Assumes nothing.
 use Rattle.std.proofs.Common.{◌≤◌, length, length-append, rules, ◌≡◌, ℕ, ◌+◌, ◌*◌, ◌/◌, ◌%◌, cond, ◌&&◌, eqb, List, [], ◌∷◌, ◌++◌, get_or, ℤ, sym, refl, ap, ◌∙◌, append_assoc, arith, to_z-of_z, w32, SFits, to_z, of_z}
 use mathlib.Core.List.{append_cancel_left}
-use native.Mathlib.Nat.{div-div-eq-div-mul}
 use Rattle.batch.specs.declared.request.Request.{Request}
 use Rattle.batch.specs.declared.request.Request.TheVariants.{Bid, Ask, MarketBid, MarketAsk, Withdrawal}
 use Rattle.batch.specs.declared.request.Terms.{Terms}
@@ -14,10 +13,7 @@ abbrev number : ℕ → List ℕ → ℕ
 number at bs = get_or bs at 0 * 16777216 + get_or bs (at + 1) 0 * 65536 + get_or bs (at + 2) 0 * 256 + get_or bs (at + 3) 0
 
 spelled : (n : ℕ) → n / 16777216 * 16777216 + n / 65536 % 256 * 65536 + n / 256 % 256 * 256 + n % 256 ≡ n
-spelled n =
-    let two : n / 256 / 256 ≡ n / 65536 = div-div-eq-div-mul n 256 256 in
-    let three : n / 65536 / 256 ≡ n / 16777216 = div-div-eq-div-mul n 65536 256 in
-    omega arith
+spelled n = grind arith
 
 abbrev terms : List ℕ → Terms
 terms bs = record { member = get_or bs 2 0; hour = number 3 bs; energy = number 7 bs }

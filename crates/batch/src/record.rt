@@ -17,6 +17,7 @@ pub enum Record<'a> {
 }
 
 /// A record, and the place of its first byte in the batch.
+// Not one generic struct with `Entry`: `found.record` and `entry.request` say more than an `item`.
 #[derive(Clone, Copy)]
 pub struct Found<'a> {
     pub place: usize,
@@ -25,7 +26,7 @@ pub struct Found<'a> {
 
 impl Record<'_> {
     /// The number of its bytes, mark included.
-    // Three numbers and not `2 + fields.len()`: only a helper over a slice would prove this of the bytes.
+    // By kind: from the bytes' length it would take five arms and a helper over slices.
     pub fn size(self) -> usize
         ensures { result ≡ size self.entry }
     {

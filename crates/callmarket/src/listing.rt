@@ -41,7 +41,7 @@ fn list_batch(heap: Global, batch: &[u8]) -> Result<Vec<Line>, AllocError>
     Ok(lines)
 }
 
-// Adds a line for the place at which reading stopped, if it did.
+// Adds a line for the place at which reading stopped, if it did. Each of three outcomes has an answer of its own.
 fn add_end(lines: &mut Vec<Line>, end: Result<(), Unread>) -> Result<(), AllocError>
     ensures { OnOk result (Ended end lines.old.items lines.new.items) }
 {

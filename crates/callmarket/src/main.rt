@@ -22,7 +22,7 @@ fn main(rt: HostRuntime) -> anyhow::Result<()> {
     Ok(())
 }
 
-// The bytes of `input`, up to one more than a batch may have.
+// The bytes of `input`, up to one more than a batch may have. No `From` makes a `u64` of a `usize`; the cast loses nothing.
 fn read_input<R: Read + Drop>(heap: Global, input: R) -> io::Result<Vec<u8>> {
     let mut bytes = Vec::new(heap);
     input.take(LONGEST as u64 + 1).read_to_end(&mut bytes)?;
