@@ -1,3 +1,4 @@
+pub mod Fronts
 pub mod Layout
 pub mod Marks
 pub mod Reading

@@ -1,14 +1,13 @@
 -- What stands at a place of a batch. Assumes nothing.
-use Rattle.std.specs.Prelude.{◌≡◌, ℕ, ◌≤◌, Bool, false, cond, ◌&&◌, List, [], ◌∷◌, length, take, Some, None, Ok, Err, Option, Result, ◌==◌, nat_le}
+use Rattle.std.specs.Prelude.{ℕ, Bool, false, cond, ◌&&◌, List, [], ◌∷◌, length, take, Some, None, Ok, Err, Option, Result, ◌==◌, nat_le}
 use Rattle.figures.specs.Refusals.{refused_by}
 use Rattle.figures.specs.declared.refusal.Part.TheVariants.{Reader}
 use Rattle.figures.specs.declared.refusal.Reason.{Reason}
 use Rattle.figures.specs.declared.refusal.Reason.TheVariants.{UnknownMark, CutShort}
 use Rattle.figures.specs.declared.refusal.Refusal.{Refusal}
 use Rattle.batch.specs.declared.record.Found.{Found}
-use Rattle.batch.specs.declared.record.Record.{Record}
 use Rattle.batch.specs.Marks.{bid_mark, ask_mark, market_bid_mark, market_ask_mark, withdrawal_mark}
-use Rattle.batch.specs.Records.{bytes, size}
+use Rattle.batch.specs.Records.{bytes}
 
 -- the end of the batch, a record by its place and its bytes, or neither
 pub data Standing : Type 0 where
@@ -55,13 +54,3 @@ abbrev pub told : Result (Option Found) Refusal → Standing
 told (Ok None) = end
 told (Ok (Some found)) = a_record found.place (bytes found.«record»)
 told (Err refusal) = unreadable refusal
-
--- what the answer tells, of bytes that begin at a place
-abbrev pub told_front : ℕ → Result Record Refusal → Standing
-told_front place (Ok front) = a_record place (bytes front)
-told_front place (Err refusal) = unreadable refusal
-
--- the record is as long as its kind says, and no longer than the bytes
-abbrev pub Measured : List ℕ → Result Record Refusal → Type 0
-Measured rest (Ok front) = (length (bytes front) ≡ size front) × (size front ≤ length rest)
-Measured rest (Err refusal) = Unit {0}

@@ -1,6 +1,7 @@
 // The record that some bytes begin with.
 ghost use Rattle.std.specs.Prelude.{◌≡◌, ◌<◌, length};
-ghost use Rattle.batch.specs.Standing.{standing, told_front, Measured};
+ghost use Rattle.batch.specs.Fronts.{told_front, Measured};
+ghost use Rattle.batch.specs.Standing.{standing};
 
 use crate::fields::{LimitFields, OrderFields, WithdrawalFields};
 use crate::record::Record;
