@@ -14,15 +14,19 @@ pub(super) fn front<'a>(rest: &'a [u8], place: usize) -> Result<Record<'a>, Refu
     ensures measured { Measured rest.now result }
 {
     let short = Reason::CutShort { place }.refused_by(Part::Reader);
-    let [first, second, rest @ ..] = rest else {
-        return Err(short);
-    };
-    match (first, second) {
-        (0x4F, 0x42) => Ok(Record::Bid(LimitFields(rest.first_chunk().ok_or(short)?))),
-        (0x4F, 0x41) => Ok(Record::Ask(LimitFields(rest.first_chunk().ok_or(short)?))),
-        (0x4D, 0x42) => Ok(Record::MarketBid(OrderFields(rest.first_chunk().ok_or(short)?))),
-        (0x4D, 0x41) => Ok(Record::MarketAsk(OrderFields(rest.first_chunk().ok_or(short)?))),
-        (0x4F, 0x57) => Ok(Record::Withdrawal(WithdrawalFields(rest.first_chunk().ok_or(short)?))),
-        _ => Err(Reason::UnknownMark { place }.refused_by(Part::Reader)),
+    match rest {
+        [0x4F, 0x42, rest @ ..] => Ok(Record::Bid(LimitFields(rest.first_chunk().ok_or(short)?))),
+        [0x4F, 0x41, rest @ ..] => Ok(Record::Ask(LimitFields(rest.first_chunk().ok_or(short)?))),
+        [0x4D, 0x42, rest @ ..] => Ok(Record::MarketBid(OrderFields(
+            rest.first_chunk().ok_or(short)?,
+        ))),
+        [0x4D, 0x41, rest @ ..] => Ok(Record::MarketAsk(OrderFields(
+            rest.first_chunk().ok_or(short)?,
+        ))),
+        [0x4F, 0x57, rest @ ..] => Ok(Record::Withdrawal(WithdrawalFields(
+            rest.first_chunk().ok_or(short)?,
+        ))),
+        [_, _, ..] => Err(Reason::UnknownMark { place }.refused_by(Part::Reader)),
+        _ => Err(short),
     }
 }
