@@ -46,8 +46,6 @@ fn drain_hour<B: Book>(book: &mut B, hour: u32) -> usize
 
 // Cuts all the energy of an hour's best order, and answers whether there was one.
 fn drain_best<B: Book>(book: &mut B, hour: u32) -> bool {
-    match book.best(hour) {
-        Some(best) => book.cut(hour, best.energy).is_ok(),
-        None => false,
-    }
+    book.best(hour)
+        .is_some_and(|best| book.cut(hour, best.energy).is_ok())
 }

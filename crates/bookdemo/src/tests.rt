@@ -167,41 +167,25 @@ fn empties_on_every_book() -> Result<(), Fail> {
     on_every_book!(empties, 3)
 }
 
-// What the making of a shelf, and of a pile, over so many places answers; at most 4,097 are tried.
-fn shelf_over(count: usize) -> Result<(), Refusal> {
-    let mut places = [order(7, 1, 1, 1); 4097];
-    let _shelf = Shelf::<Bids>::new(&mut places[..count.min(4097)])?;
-    Ok(())
-}
-
-fn pile_over(count: usize) -> Result<(), Refusal> {
-    let mut places = [order(7, 1, 1, 1); 4097];
-    let _pile = Pile::<Asks>::new(&mut places[..count.min(4097)])?;
+// What the making of a book answers.
+fn answer<B: Book + Drop>(made: Result<B, Refusal>) -> Result<(), Refusal> {
+    let _book = made?;
     Ok(())
 }
 
 #[test]
 fn makes_books_of_1_to_4096_places() -> Result<(), Fail> {
-    check_eq(
-        shelf_over(0),
-        refused(Reason::PlacesOutOfRange { places: 0 }),
-    )?;
-    check_eq(shelf_over(1), Ok(()))?;
-    check_eq(shelf_over(4096), Ok(()))?;
-    check_eq(
-        shelf_over(4097),
-        refused(Reason::PlacesOutOfRange { places: 4097 }),
-    )?;
-    check_eq(
-        pile_over(0),
-        refused(Reason::PlacesOutOfRange { places: 0 }),
-    )?;
-    check_eq(pile_over(1), Ok(()))?;
-    check_eq(pile_over(4096), Ok(()))?;
-    check_eq(
-        pile_over(4097),
-        refused(Reason::PlacesOutOfRange { places: 4097 }),
-    )
+    let any = order(7, 1, 1, 1);
+    let none = refused(Reason::PlacesOutOfRange { places: 0 });
+    let many = refused(Reason::PlacesOutOfRange { places: 4097 });
+    check_eq(answer(Shelf::<Bids>::new(&mut [])), none)?;
+    check_eq(answer(Shelf::<Bids>::new(&mut [any])), Ok(()))?;
+    check_eq(answer(Shelf::<Bids>::new(&mut [any; 4096])), Ok(()))?;
+    check_eq(answer(Shelf::<Bids>::new(&mut [any; 4097])), many)?;
+    check_eq(answer(Pile::<Asks>::new(&mut [])), none)?;
+    check_eq(answer(Pile::<Asks>::new(&mut [any])), Ok(()))?;
+    check_eq(answer(Pile::<Asks>::new(&mut [any; 4096])), Ok(()))?;
+    check_eq(answer(Pile::<Asks>::new(&mut [any; 4097])), many)
 }
 
 #[test]

@@ -1,5 +1,5 @@
 // Orders in a slice, found and inserted by rank.
-ghost use Rattle.std.specs.Prelude.{◌≡◌, ◌==◌, ◌&&◌, not, ◌+◌, ◌<◌, ◌≤◌, ◌++◌, length, take, drop};
+ghost use Rattle.std.specs.Prelude.{◌≡◌, ◌-◌, ◌==◌, ◌&&◌, not, ◌+◌, ◌<◌, ◌≤◌, ◌++◌, length, take, drop};
 ghost use Rattle.std.specs.List.{insert, prefix_len};
 ghost use Rattle.sides.specs.Listing.{sooner, stands, rank_for, ranked_in, room_for, accepted};
 
@@ -53,14 +53,16 @@ pub fn insert<R: Ranking>(places: &mut [Order], count: usize, order: Order) -> R
     refuse_unless(count < capacity, Reason::BookFull { capacity })?;
     let serial = order.serial;
     let at = rank::<R>(&places[..count], &order).ok_or(Reason::SerialStands { serial })?;
-    insert_at(places, count, at, order);
+    insert_at(&mut places[..=count], at, order);
     Ok(())
 }
 
-fn insert_at(places: &mut [Order], count: usize, at: usize, order: Order)
-    requires { (at ≤ count) × (count < length places.old) }
-    ensures { places.new ≡ insert (take count places.old) at order ++ drop (count + 1) places.old }
+// Puts an order at `at`; those from there on move one place further, and the last of them falls off.
+fn insert_at(orders: &mut [Order], at: usize, order: Order)
+    requires { at < length orders.old }
+    ensures { orders.new ≡ insert (take (length orders.old - 1) orders.old) at order }
 {
-    places.copy_within(at..count, at + 1);
-    places[at] = order;
+    let last = orders.len() - 1;
+    orders.copy_within(at..last, at + 1);
+    orders[at] = order;
 }
