@@ -1,5 +1,5 @@
 // The fields of a record, read from the bytes behind its mark. Every number is big-endian.
-ghost use Rattle.std.specs.Prelude.{◌≡◌, ◌+◌, ◌≤◌, length};
+ghost use Rattle.std.specs.Prelude.{◌≡◌, ◌+◌, ◌≤◌, [], ◌∷◌, length, take};
 ghost use Rattle.batch.specs.Layout.{bytes_at, word};
 
 // Three structs and not one over a length N: what can be read differs, and each accessor would owe a `requires` on N.
@@ -10,6 +10,14 @@ mod withdrawal;
 pub use limit::LimitFields;
 pub use order::OrderFields;
 pub use withdrawal::WithdrawalFields;
+
+// The byte in front.
+fn first_byte(bytes: &[u8]) -> u8
+    requires { 1 ≤ length bytes.now }
+    ensures { take 1 bytes.now ≡ result ∷ [] }
+{
+    bytes[0]
+}
 
 // The number that the four bytes from `at` on spell, highest first.
 fn number_at(bytes: &[u8], at: usize) -> u32

@@ -2,7 +2,7 @@
 ghost use Rattle.std.specs.Prelude.{◌≡◌, [], ◌∷◌, take, drop};
 ghost use Rattle.batch.specs.Layout.{bytes_at, word, terms_layout, FittingTerms};
 
-use crate::fields::number_at;
+use crate::fields::{first_byte, number_at};
 use crate::request::Terms;
 
 /// Member (1 byte), hour (4) and energy (4).
@@ -13,8 +13,8 @@ impl OrderFields<'_> {
     pub fn member(self) -> u8
         ensures { take 1 self.entry.0.now ≡ result ∷ [] }
     {
-        let [member, ..] = self.0;
-        *member
+        let fields = self.0;
+        first_byte(fields)
     }
 
     pub fn hour(self) -> u32

@@ -2,19 +2,18 @@
 ghost use Rattle.std.specs.Prelude.{◌≡◌, [], ◌∷◌, take, drop};
 ghost use Rattle.batch.specs.Layout.{word};
 
-use crate::fields::number_at;
+use crate::fields::{first_byte, number_at};
 
 /// Member (1 byte) and serial (4).
 #[derive(Clone, Copy)]
 pub struct WithdrawalFields<'a>(pub &'a [u8; 5]);
 
 impl WithdrawalFields<'_> {
-    // As in `OrderFields`: one function over any length would have to require that a byte is there.
     pub fn member(self) -> u8
         ensures { take 1 self.entry.0.now ≡ result ∷ [] }
     {
-        let [member, ..] = self.0;
-        *member
+        let fields = self.0;
+        first_byte(fields)
     }
 
     pub fn serial(self) -> u32
