@@ -6,8 +6,8 @@ use Rattle.std.specs.List.{AllByRecursion}
 use Rattle.std.proofs.ByRecursion.{All-push}
 use Rattle.figures.specs.declared.refusal.Refusal.{Refusal}
 use Rattle.batch.specs.declared.reader.Reader.{Reader}
-use Rattle.batch.specs.declared.record.Found.{Found}
-use Rattle.batch.specs.declared.request.Entry.{Entry}
+use Rattle.batch.specs.declared.placed.Placed.{Placed}
+use Rattle.batch.specs.declared.record.Record.{Record}
 use Rattle.batch.specs.declared.request.Request.{Request}
 use Rattle.batch.specs.declared.unread.Unread.{Unread}
 use Rattle.batch.specs.declared.unread.Unread.TheVariants.{Unreadable}
@@ -15,24 +15,24 @@ use Rattle.batch.specs.Layout.{layout, layouts, Fitting}
 use Rattle.batch.specs.Reading.{ahead, here}
 use Rattle.batch.specs.Records.{bytes}
 use Rattle.batch.specs.Standing.{end, a_record, unreadable, standing, step, told}
-use Rattle.batch.specs.Whole.{asked, Placed, ReadToEnd, Reads}
+use Rattle.batch.specs.Whole.{asked, PlacedFrom, ReadToEnd, Reads}
 use Rattle.batch.proofs.Front.{splits, at_end}
 use Rattle.batch.proofs.Unique.{seven, stands, some_bytes, Behind, behind}
 
 -- the entries are the records before the reader, one after another
-pub record Sofar (batch : List ℕ) (entries : List Entry) (reader : Reader) : Type 0 where
+pub record Sofar (batch : List ℕ) (entries : List (Placed Request)) (reader : Reader) : Type 0 where
   pub same : reader.batch.now ≡ batch
   pub bytes : layouts (asked entries) ++ ahead reader ≡ batch
   pub reached : length (layouts (asked entries)) ≡ reader.place
   pub fitting : AllByRecursion Fitting (asked entries)
-  pub placed : Placed 0 entries
+  pub placed : PlacedFrom 0 entries
   pub few : 7 * length entries ≤ reader.place
 
-placed_push : (at : ℕ) (es : List Entry) (e : Entry) → Placed at es → e.place ≡ at + length (layouts (asked es)) → Placed at (es ++ e ∷ [])
+placed_push : (at : ℕ) (es : List (Placed Request)) (e : Placed Request) → PlacedFrom at es → e.place ≡ at + length (layouts (asked es)) → PlacedFrom at (es ++ e ∷ [])
 placed_push at [] e p is = (is ∙ add-zero at, tt)
 placed_push at (f ∷ es) e p is =
     let long = simp length-append at is in
-    (p.0, placed_push (at + length (layout f.request)) es e p.1 (omega arith))
+    (p.0, placed_push (at + length (layout f.item)) es e p.1 (omega arith))
 
 none_left : (qs : List Request) → [] ≡ layouts qs → qs ≡ []
 none_left [] e = refl
@@ -45,11 +45,11 @@ not_layouts : (refusal : Refusal) (place : ℕ) (qs : List Request) → unreadab
 not_layouts refusal place [] e = cc
 not_layouts refusal place (q ∷ qs) e = no_record refusal place q (layouts qs) e
 
-module _ {batch : List ℕ} {es : List Entry} {reader : Reader} (s : Sofar batch es reader) where
+module _ {batch : List ℕ} {es : List (Placed Request)} {reader : Reader} (s : Sofar batch es reader) where
   -- one record more, behind which the reader then stands
-  pub one_more : (found : Found) (q : Request) (next : Reader) (more : List Entry) → told (Ok (Some found)) ≡ here reader → layout q ≡ bytes found.«record» → Fitting q → next.place ≡ reader.place + step (here reader) → next.batch.now ≡ reader.batch.now → more ≡ es ++ record { place = found.place; request = q } ∷ [] → Sofar batch more next
+  pub one_more : (found : Placed Record) (q : Request) (next : Reader) (more : List (Placed Request)) → told (Ok (Some found)) ≡ here reader → layout q ≡ bytes found.item → Fitting q → next.place ≡ reader.place + step (here reader) → next.batch.now ≡ reader.batch.now → more ≡ es ++ record { place = found.place; item = q } ∷ [] → Sofar batch more next
   one_more found q next more stands is fits moved same pushed =
-      let e : Entry = record { place = found.place; request = q } in
+      let e : Placed Request = record { place = found.place; item = q } in
       let front = layout q in
       let split = splits reader.place found.place (ahead reader) front (ap (a_record found.place) is ∙ stands) in
       let steps : next.place ≡ reader.place + length front = moved ∙ ap (λ t. reader.place + step t) (sym stands) ∙ ap (λ l. reader.place + length l) (sym is) in

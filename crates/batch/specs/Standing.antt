@@ -5,7 +5,8 @@ use Rattle.figures.specs.declared.refusal.Part.TheVariants.{Reader}
 use Rattle.figures.specs.declared.refusal.Reason.{Reason}
 use Rattle.figures.specs.declared.refusal.Reason.TheVariants.{UnknownMark, CutShort}
 use Rattle.figures.specs.declared.refusal.Refusal.{Refusal}
-use Rattle.batch.specs.declared.record.Found.{Found}
+use Rattle.batch.specs.declared.placed.Placed.{Placed}
+use Rattle.batch.specs.declared.record.Record.{Record}
 use Rattle.batch.specs.Marks.{bid_mark, ask_mark, market_bid_mark, market_ask_mark, withdrawal_mark}
 use Rattle.batch.specs.Records.{bytes}
 
@@ -50,7 +51,7 @@ step (a_record place record_bytes) = length record_bytes
 step (unreadable refusal) = 0
 
 -- what an answer of the reader tells
-abbrev pub told : Result (Option Found) Refusal → Standing
+abbrev pub told : Result (Option (Placed Record)) Refusal → Standing
 told (Ok None) = end
-told (Ok (Some found)) = a_record found.place (bytes found.«record»)
+told (Ok (Some found)) = a_record found.place (bytes found.item)
 told (Err refusal) = unreadable refusal

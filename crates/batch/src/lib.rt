@@ -2,6 +2,7 @@
 #![tactic(auto)]
 
 pub mod fields;
+pub mod placed;
 pub mod reader;
 pub mod record;
 pub mod request;

@@ -4,6 +4,7 @@ ghost use Rattle.batch.specs.Layout.{layout, Fitting};
 ghost use Rattle.batch.specs.Records.{bytes, size};
 
 use crate::fields::{LimitFields, OrderFields, WithdrawalFields};
+use crate::placed::Placed;
 use crate::request::Request;
 
 /// A record's kind, with the bytes that stand behind its mark.
@@ -17,12 +18,7 @@ pub enum Record<'a> {
 }
 
 /// A record, and the place of its first byte in the batch.
-// Not one generic struct with `Entry`: `found.record` and `entry.request` say more than an `item`.
-#[derive(Clone, Copy)]
-pub struct Found<'a> {
-    pub place: usize,
-    pub record: Record<'a>,
-}
+pub type Found<'a> = Placed<Record<'a>>;
 
 impl Record<'_> {
     /// The number of its bytes, mark included.

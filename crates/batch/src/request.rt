@@ -2,6 +2,7 @@
 ghost use Rattle.std.specs.Prelude.{Some};
 ghost use Rattle.batch.specs.Texts.{terms_text, request_text};
 
+use crate::placed::Placed;
 use std::fmt;
 
 /// What every order names: whose it is, for which delivery hour, and how many kWh.
@@ -23,11 +24,7 @@ pub enum Request {
 }
 
 /// A request, and the place of its record in the batch.
-#[derive(Clone, Copy, Debug, PartialEq, Eq)]
-pub struct Entry {
-    pub place: usize,
-    pub request: Request,
-}
+pub type Entry = Placed<Request>;
 
 impl fmt::Display for Terms {
     ghost output = { λ terms. Some (terms_text terms) };

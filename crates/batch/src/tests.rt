@@ -55,7 +55,7 @@ fn every_kind_is_read(rt: HostRuntime) {
     assert_eq!(rt; entries.len(), 5);
     for ((entry, place), request) in entries.iter().zip(&STARTS).zip(&requests) {
         assert_eq!(rt; entry.place, *place);
-        assert_eq!(rt; entry.request, *request);
+        assert_eq!(rt; entry.item, *request);
     }
 }
 
@@ -115,11 +115,11 @@ fn marks_inside_fields_are_fields(rt: HostRuntime) {
     ];
     assert_eq!(rt; read_all(&batch, &mut entries), Ok(()));
     assert!(rt; entries.len() == 1);
-    let request = Request::Bid {
+    let item = Request::Bid {
         terms: terms(0x4F, 0x424F_414D, 0x424D_414F),
         limit: 0x574F_424F,
     };
-    assert_eq!(rt; entries[0], Entry { place: 0, request });
+    assert_eq!(rt; entries[0], Entry { place: 0, item });
 }
 
 #[test]

@@ -16,10 +16,10 @@ pub fn read_all(batch: &[u8], entries: &mut Vec<Entry>) -> Result<(), Unread>
 {
     entries.clear();
     let mut reader = Reader::new(batch);
-    while let Some(Found { place, record }) = reader.next()? {
+    while let Some(Found { place, item }) = reader.next()? {
         entries.push(Entry {
             place,
-            request: record.request(),
+            item: item.request(),
         })?;
     }
     Ok(())

@@ -9,7 +9,7 @@ use Rattle.callmarket.specs.declared.line.Line.TheVariants.{Call, Listed, Unread
 
 abbrev pub line_text : Line → List ℕ
 line_text (Call hour) = codes "CALL " ++ decimal hour
-line_text (Listed entry) = codes "RECORD " ++ (decimal entry.place ++ (codes " " ++ request_text entry.request))
+line_text (Listed entry) = codes "RECORD " ++ (decimal entry.place ++ (codes " " ++ request_text entry.item))
 line_text (Unreadable refusal) = codes "UNREADABLE " ++ (signed_decimal (notice refusal.reason).figure ++ (codes " " ++ decimal (notice refusal.reason).number))
 line_text TooLong = codes "TOO LONG"
 

@@ -1,6 +1,7 @@
 -- What the program prints of a batch. Assumes nothing.
 use Rattle.std.specs.Prelude.{◌≡◌, ℕ, ◌<◌, ◌≤◌, List, [], ◌∷◌, ◌++◌, map, length, Ok, Err, Result}
-use Rattle.batch.specs.declared.request.Entry.{Entry}
+use Rattle.batch.specs.declared.placed.Placed.{Placed}
+use Rattle.batch.specs.declared.request.Request.{Request}
 use Rattle.batch.specs.declared.unread.Unread.{Unread}
 use Rattle.batch.specs.declared.unread.Unread.TheVariants.{Unreadable as Stopped, NoMemory}
 use Rattle.batch.specs.Whole.{Reads}
@@ -15,7 +16,7 @@ Ended (Err NoMemory) before lines = ⊥
 
 -- the call, a line for each record that was read, and the end
 pub record Lists (batch : List ℕ) (lines : List Line) : Type 0 where
-  pub entries : List Entry
+  pub entries : List (Placed Request)
   pub result : Result (Unit {0}) Unread
   pub reads : Reads batch entries result
   pub ended : Ended result (Call 100 ∷ map Listed entries) lines

@@ -21,7 +21,7 @@ impl fmt::Display for Line {
     fn fmt<W: fmt::Write>(&self, f: &mut fmt::Formatter<W>) -> fmt::Result {
         match self {
             Line::Call { hour } => write!(f, "CALL {hour}"),
-            Line::Listed(Entry { place, request }) => write!(f, "RECORD {place} {request}"),
+            Line::Listed(Entry { place, item }) => write!(f, "RECORD {place} {item}"),
             Line::Unreadable(Refusal { reason, .. }) => {
                 write!(f, "UNREADABLE {} {}", reason.figure(), reason.number())
             }

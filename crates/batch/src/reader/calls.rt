@@ -32,6 +32,9 @@ impl<'a> Reader<'a> {
         }
         let record = front(ahead, place)?;
         self.place = place + record.size();
-        Ok(Some(Found { place, record }))
+        Ok(Some(Found {
+            place,
+            item: record,
+        }))
     }
 }
