@@ -2,7 +2,6 @@
 ghost use Rattle.std.specs.Prelude.{◌≡◌, ◌+◌, ◌≤◌, [], ◌∷◌, length, take};
 ghost use Rattle.batch.specs.Layout.{bytes_at, word};
 
-// Three structs and not one over a length N: what can be read differs, and each accessor would owe a `requires` on N.
 mod limit;
 mod order;
 mod withdrawal;
@@ -10,6 +9,10 @@ mod withdrawal;
 pub use limit::LimitFields;
 pub use order::OrderFields;
 pub use withdrawal::WithdrawalFields;
+
+/// The N bytes behind a record's mark. Which fields they hold follows from N.
+#[derive(Clone, Copy)]
+pub struct Fields<'a, const N: usize>(pub &'a [u8; N]);
 
 // The byte in front.
 fn first_byte(bytes: &[u8]) -> u8

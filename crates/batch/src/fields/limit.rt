@@ -2,19 +2,18 @@
 ghost use Rattle.std.specs.Prelude.{◌≡◌, take, drop};
 ghost use Rattle.batch.specs.Layout.{signed_word};
 
-use crate::fields::{OrderFields, number_at};
+use crate::fields::{Fields, OrderFields, number_at};
 
 /// The fields that every order has (9 bytes), then the limit (4, two's complement).
-#[derive(Clone, Copy)]
-pub struct LimitFields<'a>(pub &'a [u8; 13]);
+pub type LimitFields<'a> = Fields<'a, 13>;
 
-impl<'a> LimitFields<'a> {
+impl<'a> Fields<'a, 13> {
     /// All but the limit.
     pub fn order(self) -> OrderFields<'a>
         ensures { result.0.now ≡ take 9 self.entry.0.now }
     {
         let fields = self.0;
-        OrderFields(fields.first_chunk().unwrap())
+        Fields(fields.first_chunk().unwrap())
     }
 
     pub fn limit(self) -> i32

@@ -2,14 +2,13 @@
 ghost use Rattle.std.specs.Prelude.{◌≡◌, [], ◌∷◌, take, drop};
 ghost use Rattle.batch.specs.Layout.{bytes_at, word, terms_layout, FittingTerms};
 
-use crate::fields::{first_byte, number_at};
+use crate::fields::{Fields, first_byte, number_at};
 use crate::request::Terms;
 
 /// Member (1 byte), hour (4) and energy (4).
-#[derive(Clone, Copy)]
-pub struct OrderFields<'a>(pub &'a [u8; 9]);
+pub type OrderFields<'a> = Fields<'a, 9>;
 
-impl OrderFields<'_> {
+impl Fields<'_, 9> {
     pub fn member(self) -> u8
         ensures { take 1 self.entry.0.now ≡ result ∷ [] }
     {

@@ -2,13 +2,12 @@
 ghost use Rattle.std.specs.Prelude.{◌≡◌, [], ◌∷◌, take, drop};
 ghost use Rattle.batch.specs.Layout.{word};
 
-use crate::fields::{first_byte, number_at};
+use crate::fields::{Fields, first_byte, number_at};
 
 /// Member (1 byte) and serial (4).
-#[derive(Clone, Copy)]
-pub struct WithdrawalFields<'a>(pub &'a [u8; 5]);
+pub type WithdrawalFields<'a> = Fields<'a, 5>;
 
-impl WithdrawalFields<'_> {
+impl Fields<'_, 5> {
     pub fn member(self) -> u8
         ensures { take 1 self.entry.0.now ≡ result ∷ [] }
     {

@@ -3,7 +3,7 @@ ghost use Rattle.std.specs.Prelude.{◌≡◌, ◌<◌, length};
 ghost use Rattle.batch.specs.Fronts.{told_front, Measured};
 ghost use Rattle.batch.specs.Standing.{standing};
 
-use crate::fields::{LimitFields, OrderFields, WithdrawalFields};
+use crate::fields::Fields;
 use crate::record::Record;
 use figures::refusal::{Part, Reason, Refusal};
 
@@ -15,17 +15,11 @@ pub(super) fn front<'a>(rest: &'a [u8], place: usize) -> Result<Record<'a>, Refu
 {
     let short = Reason::CutShort { place }.refused_by(Part::Reader);
     match rest {
-        [0x4F, 0x42, rest @ ..] => Ok(Record::Bid(LimitFields(rest.first_chunk().ok_or(short)?))),
-        [0x4F, 0x41, rest @ ..] => Ok(Record::Ask(LimitFields(rest.first_chunk().ok_or(short)?))),
-        [0x4D, 0x42, rest @ ..] => Ok(Record::MarketBid(OrderFields(
-            rest.first_chunk().ok_or(short)?,
-        ))),
-        [0x4D, 0x41, rest @ ..] => Ok(Record::MarketAsk(OrderFields(
-            rest.first_chunk().ok_or(short)?,
-        ))),
-        [0x4F, 0x57, rest @ ..] => Ok(Record::Withdrawal(WithdrawalFields(
-            rest.first_chunk().ok_or(short)?,
-        ))),
+        [0x4F, 0x42, rest @ ..] => Ok(Record::Bid(Fields(rest.first_chunk().ok_or(short)?))),
+        [0x4F, 0x41, rest @ ..] => Ok(Record::Ask(Fields(rest.first_chunk().ok_or(short)?))),
+        [0x4D, 0x42, rest @ ..] => Ok(Record::MarketBid(Fields(rest.first_chunk().ok_or(short)?))),
+        [0x4D, 0x41, rest @ ..] => Ok(Record::MarketAsk(Fields(rest.first_chunk().ok_or(short)?))),
+        [0x4F, 0x57, rest @ ..] => Ok(Record::Withdrawal(Fields(rest.first_chunk().ok_or(short)?))),
         [_, _, ..] => Err(Reason::UnknownMark { place }.refused_by(Part::Reader)),
         _ => Err(short),
     }
