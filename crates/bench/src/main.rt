@@ -17,6 +17,7 @@ mod runs;
 mod table;
 mod timing;
 
+// Two outcomes, each with its own way out.
 fn main(rt: HostRuntime) -> anyhow::Result<()> {
     match asked(&rt)? {
         Some(shown) => print_table(&Table { out: &rt, shown }),
@@ -43,7 +44,8 @@ fn print_table(table: &Table) -> anyhow::Result<()> {
     print_lines(table, 4_096)
 }
 
-// Prints the lines of the books that have room for just so many orders.
+// Prints the lines of the books that have room for just so many orders. No `From` makes a `usize` of a `u32`;
+// the cast loses nothing.
 fn print_lines(table: &Table, orders: u32) -> anyhow::Result<()>
     requires { orders ≤ 4096 }
 {

@@ -5,7 +5,7 @@ use book::book::Book;
 use figures::refusal::Refusal;
 use std::io;
 
-/// Shows a book, or why it was not made.
+/// Shows a book, or why it was not made: both are shown, so neither is handed on.
 pub(crate) fn show<B: Book + Drop>(
     rt: &HostRuntime,
     title: &str,
