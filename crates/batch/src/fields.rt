@@ -1,5 +1,5 @@
 // The fields of a record, read from the bytes behind its mark. Every number is big-endian.
-ghost use Rattle.std.specs.Prelude.{◌≡◌, ◌+◌, ◌≤◌, [], ◌∷◌, length, take};
+ghost use Rattle.std.specs.Prelude.{◌≡◌, ◌+◌, ◌≤◌, length};
 ghost use Rattle.batch.specs.Layout.{bytes_at, word};
 
 mod limit;
@@ -13,14 +13,6 @@ pub use withdrawal::WithdrawalFields;
 /// The N bytes behind a record's mark. Which fields they hold follows from N.
 #[derive(Clone, Copy)]
 pub struct Fields<'a, const N: usize>(pub &'a [u8; N]);
-
-// The byte in front.
-fn first_byte(bytes: &[u8]) -> u8
-    requires { 1 ≤ length bytes.now }
-    ensures { take 1 bytes.now ≡ result ∷ [] }
-{
-    bytes[0]
-}
 
 // The number that the four bytes from `at` on spell, highest first.
 fn number_at(bytes: &[u8], at: usize) -> u32

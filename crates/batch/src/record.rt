@@ -22,7 +22,7 @@ pub type Found<'a> = Placed<Record<'a>>;
 
 impl Record<'_> {
     /// The number of its bytes, mark included.
-    // By kind: from the bytes' length it would take five arms and a helper over slices.
+    // By kind: of `2 + fields.len()` it stayed open that it is the length of the record's bytes.
     pub fn size(self) -> usize
         ensures { result ≡ size self.entry }
     {

@@ -52,9 +52,9 @@ fn print_lines(table: &Table, orders: u32) -> anyhow::Result<()>
     // Whatever stands in the places, a new book is empty.
     let mut places = [order(1); MOST_PLACES];
     let places = &mut places[..orders as usize];
-    let shelf = time_runs(table.out, Shelf::<Bids>::new(places), orders)?;
+    let shelf = time_runs(table.out, &mut Shelf::<Bids>::new(places)?, orders)?;
     table.print_line("shelf", orders, shelf)?;
-    let pile = time_runs(table.out, Pile::<Bids>::new(places), orders)?;
+    let pile = time_runs(table.out, &mut Pile::<Bids>::new(places)?, orders)?;
     table.print_line("pile", orders, pile)?;
     Ok(())
 }

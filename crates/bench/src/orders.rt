@@ -20,9 +20,9 @@ const LIMITS: u32 = 10;
 
 const LIMIT_STEP: i32 = 50_000;
 
-/// The order of the stream that has this serial. The casts are proved to lose nothing; `try_from` would answer
-/// a `Result`.
+/// The order of the stream that has this serial.
 pub(crate) fn order(serial: u32) -> Order {
+    // The casts are proved to lose nothing; `try_from` would answer a `Result`.
     let scattered = (u64::from(serial) * FACTOR % PRIME) as u32;
     let level = scattered / LAST_HOUR % LIMITS;
     Order {

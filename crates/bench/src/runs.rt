@@ -10,7 +10,8 @@ pub(crate) fn fill<B: Book>(book: &mut B, count: u32) -> usize
     ensures { result ≤ count }
 {
     (0..count)
-        .filter(|put| book.put(order(put + 1)).is_ok())
+        .map(|put| book.put(order(put + 1)))
+        .filter(Result::is_ok)
         .count()
 }
 
@@ -20,13 +21,14 @@ pub(crate) fn cut<B: Book>(book: &mut B, count: u32) -> usize
     ensures { result ≤ count }
 {
     (0..count)
-        .filter(|turn| book.cut(1 + turn % LAST_HOUR, 1).is_ok())
+        .map(|turn| book.cut(1 + turn % LAST_HOUR, 1))
+        .filter(Result::is_ok)
         .count()
 }
 
-/// Empties the hours one after the other, and answers how many orders it removed. Of a `sum` over the hours
-/// it is not found that it fits.
+/// Empties the hours one after the other, and answers how many orders it removed.
 pub(crate) fn drain<B: Book>(book: &mut B) -> usize {
+    // Of a `sum` over the hours it is not found that it fits.
     let mut removed = 0;
     for passed in 0..LAST_HOUR {
         removed += drain_hour(book, 1 + passed);

@@ -12,8 +12,8 @@ pub enum Shown {
 }
 
 impl Shown {
-    // What stands in the column of a run. The arguments choose it, when the program runs. No `From` makes a `u128`
-    // of a `usize`; the cast loses nothing.
+    // What stands in the column of a run, which the program's arguments choose. No `From` makes a `u128` of a
+    // `usize`; the cast loses nothing.
     fn figure(self, run: Run) -> u128 {
         match self {
             Shown::Counts => run.accepted as u128,

@@ -1,8 +1,6 @@
 // How long the runs over a book take.
 use crate::runs::{cut, drain, fill};
-use anyhow::anyhow;
 use book::book::Book;
-use figures::refusal::Refusal;
 use std::io;
 use std::rt::Clock;
 use std::time::{Duration, Instant};
@@ -22,26 +20,20 @@ pub struct Runs {
     pub drain: Run,
 }
 
-/// Puts `count` orders into an empty book that was made, makes as many cuts, and empties the book.
-pub(crate) fn time_runs<B: Book + Drop>(
-    clock: &impl Clock,
-    made: Result<B, Refusal>,
-    count: u32,
-) -> anyhow::Result<Runs> {
-    let Ok(mut book) = made else {
-        return Err(anyhow!("there can be no book of so many places"));
-    };
-    let start = Instant::now(clock)?;
-    let fill = end_run(clock, start, fill(&mut book, count))?;
-    let start = Instant::now(clock)?;
-    let cut = end_run(clock, start, cut(&mut book, count))?;
-    let start = Instant::now(clock)?;
-    let drain = end_run(clock, start, drain(&mut book))?;
-    Ok(Runs { fill, cut, drain })
+/// Puts `count` orders into an empty book, makes as many cuts, and empties the book.
+pub(crate) fn time_runs<B: Book>(clock: &impl Clock, book: &mut B, count: u32) -> io::Result<Runs> {
+    Ok(Runs {
+        fill: time_run(clock, || fill(book, count))?,
+        cut: time_run(clock, || cut(book, count))?,
+        drain: time_run(clock, || drain(book))?,
+    })
 }
 
-// The run that began at `start` and ends now.
-fn end_run(clock: &impl Clock, start: Instant, accepted: usize) -> io::Result<Run> {
+fn time_run<F: FnOnce() -> usize>(clock: &impl Clock, run: F) -> io::Result<Run>
+    requires { F.pre run }
+{
+    let start = Instant::now(clock)?;
+    let accepted = run();
     let time = start.elapsed(clock)?;
     Ok(Run { accepted, time })
 }

@@ -1,12 +1,9 @@
 -- A loop over a slice of orders keeps what passes.
-use Rattle.std.proofs.Common.{◌≡◌, ℕ, ◌+◌, ◌-◌, ◌<◌, ◌≤◌, min, Bool, true, false, ◌⊎◌, List, [], ◌∷◌, ◌++◌, length, get_or, take, drop, set, filter, sym, refl, ap, ◌∙◌, subst, inl, inr, append_assoc, add-one, arith}
-use Rattle.std.specs.List.{remove, between}
-use Rattle.std.proofs.lemmas.List.Edits.{between_more, between_none, length-between}
+use Rattle.std.proofs.Common.{◌≡◌, ℕ, ◌+◌, ◌-◌, ◌<◌, ◌≤◌, Bool, true, false, List, [], ◌∷◌, ◌++◌, length, get_or, take, drop, set, filter, sym, ap, ◌∙◌, subst, append_assoc, arith}
 use Rattle.std.proofs.lemmas.List.Elements.{filter_more}
-use Rattle.std.proofs.lemmas.List.{append-nil, get_or-append-add, get_or-drop, set_at, get_or_at, length_push, drop_more, length-append, length-take, length-take-le, take-append-drop, take_all, take-take, drop-take}
-use Rattle.std.proofs.lemmas.Bool.{cases_lt, cond-true, cond-false, lt-ltb, le-ltb}
+use Rattle.std.proofs.lemmas.List.{append-nil, get_or-append-add, get_or-drop, set_at, length_push, drop_more}
+use Rattle.std.proofs.lemmas.Bool.{cond-true, cond-false}
 use Rattle.figures.specs.declared.order.Order.{Order}
-use Rattle.book.specs.Lists.{closed_up}
 
 -- Among the first i, `left` orders pass; they stand in front, and what stood behind them stays.
 pub record Keeping (test : Order → Bool) (xs ys : List Order) (left i : ℕ) : Type 0 where

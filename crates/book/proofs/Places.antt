@@ -1,8 +1,8 @@
 -- The first order that passes a test, and the list without it, by its place.
 use Rattle.std.proofs.Common.{◌≡◌, ℕ, ◌+◌, ◌<◌, Bool, true, false, cond, not, ltb, List, [], ◌∷◌, length, get_or, set, Some, None, sym, refl, ap, ◌∙◌, one-add, arith}
-use Rattle.std.specs.List.{prefix_len, remove, slice_get, position, find}
+use Rattle.std.specs.List.{prefix_len, remove, position, find}
 use Rattle.std.proofs.lemmas.List.Folds.{find_at}
-use Rattle.std.proofs.lemmas.Option.{slice_get_past, slice_get-get_or}
+use Rattle.std.proofs.lemmas.Option.{slice_get_past}
 use Rattle.std.proofs.lemmas.Bool.{ltb-true, ltb-false}
 use Rattle.figures.specs.declared.order.Order.{Order}
 use Rattle.book.specs.Lists.{without_first, lessened, lessened_first}

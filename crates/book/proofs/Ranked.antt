@@ -7,14 +7,8 @@ use Rattle.figures.specs.declared.order.Order.{Order}
 use Rattle.sides.specs.Ranking.{Direction, Lawful, Ranks}
 use Rattle.sides.specs.Listing.{Ranked, ranked_in, sooner, stands}
 use Rattle.book.proofs.Kept.{each_ranked_in}
-use Rattle.book.specs.Lists.{without_first, lessened, lessened_first}
+use Rattle.book.specs.Lists.{ListingLaws, without_first, lessened, lessened_first}
 use Rattle.book.proofs.Sound.{each_without_first, each_filter}
-
--- a strict total order on orders with different serials
-pub record ListingLaws (before : Order → Order → Bool) : Type 0 where
-  pub one_way : (a b : Order) → before a b ≡ true → before b a ≡ false
-  pub chain : (a b c : Order) → before a b ≡ true → before b c ≡ true → before a c ≡ true
-  pub total : (a b : Order) → (a.serial ≡ b.serial → ⊥) → before a b ≡ false → before b a ≡ true
 
 pub sooner_laws : {d : Direction} {first : Ranks} → Lawful d first → ListingLaws (sooner first)
 sooner_laws law =

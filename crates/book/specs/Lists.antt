@@ -1,5 +1,5 @@
--- Words for lists of orders: the first that passes a test, the list without it, energy.
-use Rattle.std.specs.Prelude.{ℕ, ◌+◌, ◌-◌, Bool, cond, not, List, [], ◌∷◌, ◌++◌, length, take, drop, Some, None, Option, ◌==◌, nat_lt}
+-- Words for lists of orders: tests, the list without an order, energy, and what the order of a list owes.
+use Rattle.std.specs.Prelude.{◌≡◌, ℕ, ◌-◌, Bool, true, false, cond, List, [], ◌∷◌, ◌++◌, length, drop, ◌==◌, nat_lt}
 use Rattle.std.specs.List.{remove, sum_by}
 use Rattle.figures.specs.declared.order.Order.{Order}
 
@@ -31,3 +31,9 @@ lessened energy x =
 abbrev pub lessened_first : (Order → Bool) → ℕ → List Order → List Order
 lessened_first test energy [] = []
 lessened_first test energy (x ∷ xs) = cond (test x) (lessened energy x ∷ xs) (x ∷ lessened_first test energy xs)
+
+-- a strict total order on orders with different serials
+pub record ListingLaws (before : Order → Order → Bool) : Type 0 where
+  pub one_way : (a b : Order) → before a b ≡ true → before b a ≡ false
+  pub chain : (a b c : Order) → before a b ≡ true → before b c ≡ true → before a c ≡ true
+  pub total : (a b : Order) → (a.serial ≡ b.serial → ⊥) → before a b ≡ false → before b a ≡ true

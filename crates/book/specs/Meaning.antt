@@ -1,5 +1,5 @@
 -- What a book means, a capacity and a list of resting orders, and what each call gives.
-use Rattle.std.specs.Prelude.{◌≡◌, ℕ, ◌≤◌, Bool, true, cond, not, ◌||◌, List, length, Some, None, Ok, Err, filter, Option, Result, ◌==◌, nat_lt}
+use Rattle.std.specs.Prelude.{◌≡◌, ℕ, ◌≤◌, true, cond, not, ◌||◌, List, length, Some, None, Ok, Err, filter, Option, Result, ◌==◌, nat_lt}
 use Rattle.std.specs.List.{list_all, find}
 use Rattle.figures.specs.Bounds.{refuse_if}
 use Rattle.figures.specs.Orders.{checked_before, within_figures}
@@ -8,17 +8,16 @@ use Rattle.figures.specs.declared.refusal.Part.TheVariants.{Book}
 use Rattle.figures.specs.declared.refusal.Reason.{Reason}
 use Rattle.figures.specs.declared.refusal.Reason.TheVariants.{CutTooLarge, PlacesOutOfRange}
 use Rattle.figures.specs.declared.refusal.Refusal.{Refusal}
-use Rattle.sides.specs.Listing.{Ranked, apart, room_for}
+use Rattle.sides.specs.Listing.{apart, room_for}
 use Rattle.book.specs.Lists.{of_hour, without_first, lessened_first}
 
--- what holds of the capacity and the list of every book, where `before` says which order is listed first
-pub record Sound (before : Order → Order → Bool) (capacity : ℕ) (xs : List Order) : Type 0 where
+-- what holds of the capacity and the list of every book
+pub record Sound (capacity : ℕ) (xs : List Order) : Type 0 where
   pub some_place : 1 ≤ capacity
   pub few_places : capacity ≤ 4096
   pub room : length xs ≤ capacity
   pub figures : list_all within_figures xs ≡ true
   pub serials : apart xs ≡ true
-  pub ranked : Ranked before xs
 
 -- a refusal that the book gives
 abbrev pub by_book : {A : Type 0} → Result A Reason → Result A Refusal

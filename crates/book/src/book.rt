@@ -2,7 +2,7 @@
 ghost use Rattle.std.specs.Prelude.{◌≡◌, ℕ, List, length, filter};
 ghost use Rattle.std.specs.List.{slice_get, find};
 ghost use Rattle.figures.specs.declared.order.Order.{Order};
-ghost use Rattle.sides.specs.Listing.{sooner, ranked_in, accepted, Untouched};
+ghost use Rattle.sides.specs.Listing.{Ranked, sooner, ranked_in, accepted, Untouched};
 ghost use Rattle.book.specs.Lists.{of_hour, with_serial, without_first, total_energy};
 ghost use Rattle.book.specs.Meaning.{Sound, put_answer, best, cut_answer, cut_list, other_hours};
 
@@ -71,6 +71,9 @@ pub trait Book {
         ensures list { list self.new ≡ other_hours hour (list self.old) }
         ensures capacity { capacity self.new ≡ capacity self.old };
 
-    // Every book of this kind is sound, in every state: its list is ranked, among others.
-    ghost sound: { (book : Self) → Sound (sooner Self.Side.Rank.Ranking.first) (capacity book) (list book) };
+    // Every book of this kind is sound, in every state.
+    ghost sound: { (book : Self) → Sound (capacity book) (list book) };
+
+    // Its list is ranked, in every state.
+    ghost ranked: { (book : Self) → Ranked (sooner Self.Side.Rank.Ranking.first) (list book) };
 }

@@ -5,8 +5,9 @@ ghost use Rattle.book.specs.Lists.{of_hour, with_serial};
 
 use figures::order::Order;
 
-/// A test that an order passes or not. It is a trait and no closure: of a closure a caller would have to show
-/// that it may be called, and a contract could not name the test that it computes.
+/// A test that an order passes or not.
+// A trait and no closure: of a closure a caller would have to show that it may be called, and a contract could
+// not name the test that it computes.
 pub trait Criterion {
     ghost passes: { Self → Order → Bool };
 

@@ -55,11 +55,12 @@ pub fn remove(orders: &mut [Order], at: usize) -> Option<Order>
 }
 
 /// Removes those that pass, and answers how many are left, in front of what the places behind them held.
-/// One pass, by hand, since a slice has no `retain`.
+/// One pass.
 pub fn remove_all<C: Criterion>(orders: &mut [Order], criterion: &C) -> usize
     ensures answer { result ≡ length (filter (λ x. not (C.Criterion.passes criterion.now x)) orders.old) }
     ensures after { orders.new ≡ filter (λ x. not (C.Criterion.passes criterion.now x)) orders.old ++ drop result orders.old }
 {
+    // By hand, since a slice has no `retain`.
     let mut left = 0;
     for i in 0..orders.len() {
         let order = orders[i];

@@ -19,20 +19,27 @@ use sides::bids::Bids;
 use std::io;
 
 fn main(rt: HostRuntime) -> io::Result<()> {
-    // Whatever stands in the places, a new book is empty.
-    let mut places = [order(0, 0, 0, 0, 0); PLACES];
-    show(&rt, "SHELF OF BIDS", Shelf::<Bids>::new(&mut places))?;
-    show(&rt, "PILE OF BIDS", Pile::<Bids>::new(&mut places))?;
-    show(&rt, "SHELF OF ASKS", Shelf::<Asks>::new(&mut places))?;
-    show(&rt, "PILE OF ASKS", Pile::<Asks>::new(&mut places))?;
+    let blank = order(0, 0, 0, 0, 0);
+    show(
+        &rt,
+        "SHELF OF BIDS",
+        Shelf::<Bids>::new(&mut [blank; PLACES]),
+    )?;
+    show(&rt, "PILE OF BIDS", Pile::<Bids>::new(&mut [blank; PLACES]))?;
+    show(
+        &rt,
+        "SHELF OF ASKS",
+        Shelf::<Asks>::new(&mut [blank; PLACES]),
+    )?;
+    show(&rt, "PILE OF ASKS", Pile::<Asks>::new(&mut [blank; PLACES]))?;
     show(
         &rt,
         "SHELF OF BIDS, LATEST FIRST",
-        Shelf::<LateBids>::new(&mut places),
+        Shelf::<LateBids>::new(&mut [blank; PLACES]),
     )?;
     show(
         &rt,
         "PILE OF BIDS, LATEST FIRST",
-        Pile::<LateBids>::new(&mut places),
+        Pile::<LateBids>::new(&mut [blank; PLACES]),
     )
 }

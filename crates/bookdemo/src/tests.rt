@@ -139,11 +139,11 @@ fn empties<B: Book>(book: &mut B) -> Result<(), Fail> {
 // A test of one book, run on each kind, of bids and of asks, over so many places.
 macro_rules! on_every_book {
     ($test:ident, $count:literal) => {{
-        let mut places = [order(7, 1, 1, 1); $count];
-        $test(&mut Shelf::<Bids>::new(&mut places)?)?;
-        $test(&mut Shelf::<Asks>::new(&mut places)?)?;
-        $test(&mut Pile::<Bids>::new(&mut places)?)?;
-        $test(&mut Pile::<Asks>::new(&mut places)?)
+        let any = order(7, 1, 1, 1);
+        $test(&mut Shelf::<Bids>::new(&mut [any; $count])?)?;
+        $test(&mut Shelf::<Asks>::new(&mut [any; $count])?)?;
+        $test(&mut Pile::<Bids>::new(&mut [any; $count])?)?;
+        $test(&mut Pile::<Asks>::new(&mut [any; $count])?)
     }};
 }
 

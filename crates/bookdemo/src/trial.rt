@@ -6,13 +6,13 @@ ghost use Rattle.bookdemo.specs.Trial.{all_put, count_put};
 use book::book::Book;
 use figures::order::Order;
 
-/// Puts each order, and answers how many the book accepted. A closure that puts would change what it holds,
-/// and after a chain with such a one a proof knows nothing of the book.
+/// Puts each order, and answers how many the book accepted.
 pub fn put_all<B: Book>(book: &mut B, orders: &[Order]) -> usize
     ensures answer { result ≡ count_put (sooner B.Side.Rank.Ranking.first) (B.Book.capacity book.old) (B.Book.list book.old) orders.now }
     ensures list { B.Book.list book.new ≡ all_put (sooner B.Side.Rank.Ranking.first) (B.Book.capacity book.old) (B.Book.list book.old) orders.now }
     ensures capacity { B.Book.capacity book.new ≡ B.Book.capacity book.old }
 {
+    // After a chain whose closure changes the book, nothing would be known of the book.
     let mut accepted = 0;
     for order in orders {
         if book.put(*order).is_ok() {

@@ -1,17 +1,16 @@
 -- One pass over a pile that keeps the order that is listed first of those that pass a test.
-use Rattle.std.proofs.Common.{◌≡◌, ℕ, Bool, true, cond, not, List, [], ◌∷◌, ◌++◌, length, Some, None, Option, filter, sym, refl, ap, ◌∙◌, append_assoc, arith}
+use Rattle.std.proofs.Common.{◌≡◌, ℕ, Bool, true, cond, not, List, [], ◌∷◌, ◌++◌, Some, None, Option, filter, sym, refl, ap, ◌∙◌, append_assoc, arith}
 use Rattle.std.specs.List.{find, fold, position, reduce}
 use Rattle.std.proofs.lemmas.Bool.{and_parts}
 use Rattle.std.proofs.lemmas.Bool.Decides.{nat_tests}
 use Rattle.std.proofs.lemmas.List.{append-nil}
 use Rattle.figures.specs.declared.order.Order.{Order}
 use Rattle.sides.specs.Listing.{apart, stands}
-use Rattle.book.specs.Lists.{with_serial}
-use Rattle.book.proofs.Ranked.{ListingLaws}
+use Rattle.book.specs.Lists.{with_serial, ListingLaws}
 use Rattle.books.specs.Holding.{order_in}
 use Rattle.books.specs.Sorting.{sorted, apart_sorted}
 use Rattle.books.proofs.Holding.{first_found}
-use Rattle.books.proofs.Sorting.{apart_pick, first_that_push, found_sorted, found_stands, soonest_of}
+use Rattle.books.proofs.Sorting.{apart_pick, find_push, found_sorted, found_stands, soonest_of}
 
 -- the sooner of two orders
 abbrev pub sooner_of : (Order → Order → Bool) → Order → Order → Order
@@ -47,7 +46,7 @@ kept_sorted before laws test xs [] h = ap (λ zs. find test (sorted before zs)) 
 kept_sorted before laws test xs (y ∷ ys) h =
     let split = append_assoc xs (y ∷ []) ys in
     let all : apart ((xs ++ y ∷ []) ++ ys) ≡ true = ap apart split ∙ h in
-    let next = first_that_push before laws test xs y (apart_front (xs ++ y ∷ []) ys all) in
+    let next = find_push before laws test xs y (apart_front (xs ++ y ∷ []) ys all) in
     ap (λ best. fold (keep before test) best ys) (sym next) ∙ (kept_sorted before laws test (xs ++ y ∷ []) ys all ∙ ap (λ zs. find test (sorted before zs)) split)
 
 pub reduced_sorted : (before : Order → Order → Bool) → ListingLaws before → (test : Order → Bool) (xs : List Order) → apart xs ≡ true → reduce (sooner_of before) (filter test xs) ≡ find test (sorted before xs)

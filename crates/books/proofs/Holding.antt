@@ -1,21 +1,20 @@
 -- What a change of the places makes of the orders held in them. The places are xs before and ys after.
-use Rattle.std.proofs.Common.{◌≡◌, ℕ, zero, suc, ◌+◌, ◌-◌, ◌^◌, ◌<◌, ◌≤◌, Bool, true, false, cond, not, eqb, ◌⊎◌, List, [], ◌∷◌, ◌++◌, length, get_or, take, drop, set, Some, None, Ok, Err, filter, Option, Result, sym, refl, ap, ◌∙◌, subst, inl, inr, append_assoc, arith}
+use Rattle.std.proofs.Common.{◌≡◌, ℕ, zero, suc, ◌+◌, ◌-◌, ◌^◌, ◌<◌, ◌≤◌, Bool, true, false, cond, not, eqb, List, [], ◌∷◌, ◌++◌, length, get_or, take, drop, set, Some, None, Ok, Err, filter, Option, Result, sym, refl, ap, ◌∙◌, append_assoc, arith}
 use Rattle.std.specs.List.{prefix_len, remove, slice_get, list_all, position, find}
 use Rattle.std.proofs.lemmas.List.Edits.{length-remove}
 use Rattle.std.proofs.lemmas.List.{take_at, take_all, length-append, take-append-drop, drop_all, length-take, length-take-le, get_or-take, append-nil, length-set}
-use Rattle.std.proofs.lemmas.Option.{slice_get-get_or, slice_get_past}
+use Rattle.std.proofs.lemmas.Option.{slice_get-get_or}
 use Rattle.std.proofs.lemmas.List.Sums.{length-filter, count_by-le-length}
 use Rattle.std.proofs.lemmas.Bool.{cond_both, cond-true, cond-false, lt-ltb, le-ltb, eq-eqb, ne_eqb, and_from, not_from_false}
 use Rattle.std.proofs.lemmas.Bool.Decides.{nat_tests}
 use Rattle.figures.specs.Orders.{within_figures, checked_before, blank}
 use Rattle.figures.specs.declared.order.Order.{Order}
 use Rattle.figures.specs.declared.refusal.Reason.{Reason}
-use Rattle.figures.specs.declared.refusal.Reason.TheVariants.{CutTooLarge}
 use Rattle.sides.specs.Ranking.{Ranks}
-use Rattle.sides.specs.Listing.{apart, stands, ranked_in, accepted, room_for, sooner, Ranked, Untouched}
+use Rattle.sides.specs.Listing.{apart, stands, ranked_in, accepted, room_for, sooner, Ranked}
 use Rattle.book.proofs.Kept.{each_ranked_in, apart_ranked_in, length_ranked_in}
 use Rattle.book.specs.Lists.{without_first, lessened_first, closed_up, lessened, of_hour, total_energy}
-use Rattle.book.specs.Meaning.{energy_in, taking, by_book, put_answer, best, cut_answer, cut_list}
+use Rattle.book.specs.Meaning.{energy_in, taking, by_book, best, cut_list}
 use Rattle.std.proofs.lemmas.List.Folds.{find_at}
 use Rattle.book.proofs.Places.{without_first_at, lessened_first_at, place_found, place_none}
 use Rattle.book.proofs.Ranked.{ranked_without_first, ranked_lessened_first}

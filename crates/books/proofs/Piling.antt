@@ -1,21 +1,19 @@
 -- What a change of a pile's places makes of its list. The orders that stand in them are xs before and ys after.
-use Rattle.std.proofs.Common.{◌≡◌, ℕ, suc, ◌+◌, ◌<◌, ◌≤◌, Bool, true, false, cond, not, ◌&&◌, ◌||◌, eqb, ◌⊎◌, List, [], ◌∷◌, ◌++◌, length, get_or, take, drop, set, is_some, Some, None, Ok, Err, Option, Result, sym, refl, ap, ◌∙◌, inl, inr, add-one, arith}
+use Rattle.std.proofs.Common.{◌≡◌, ℕ, suc, ◌+◌, ◌<◌, ◌≤◌, Bool, true, false, cond, not, ◌&&◌, eqb, ◌⊎◌, List, [], ◌∷◌, ◌++◌, length, get_or, take, drop, set, Some, None, Ok, Err, Option, Result, sym, refl, ap, ◌∙◌, inl, inr, add-one, arith}
 use Rattle.std.specs.Option.{IfSome}
-use Rattle.std.specs.List.{prefix_len, remove, slice_get, list_all, find, position}
+use Rattle.std.specs.List.{prefix_len, remove, slice_get, list_all, find}
 use Rattle.std.proofs.lemmas.List.{take-append-drop, drop_more, set_split, append-nil, take_more_set}
 use Rattle.std.proofs.lemmas.Option.{slice_get-get_or, slice_get_past}
 use Rattle.std.proofs.lemmas.Bool.{cases_lt, and_from, not_from_false}
 use Rattle.std.proofs.lemmas.Bool.Decides.{nat_tests}
 use Rattle.figures.specs.Orders.{within_figures, blank}
 use Rattle.figures.specs.declared.order.Order.{Order}
-use Rattle.figures.specs.declared.refusal.Reason.TheVariants.{SerialStands}
-use Rattle.sides.specs.Listing.{accepted, apart, ranked_in, room_for, sooner, stands}
+use Rattle.sides.specs.Listing.{accepted, apart, ranked_in, sooner, stands}
 use Rattle.sides.specs.Ranking.{Ranks}
-use Rattle.book.specs.Lists.{lessened, lessened_first, of_hour, with_serial, without_first}
+use Rattle.book.specs.Lists.{lessened, lessened_first, of_hour, with_serial, without_first, ListingLaws}
 use Rattle.book.specs.Meaning.{best, cut_list, energy_in, put_answer}
 use Rattle.std.proofs.lemmas.List.Folds.{find_at}
 use Rattle.book.proofs.Places.{without_first_at}
-use Rattle.book.proofs.Ranked.{ListingLaws}
 use Rattle.books.specs.Holding.{cut_at, order_in}
 use Rattle.books.specs.Sorting.{sorted, length_sorted, stands_sorted}
 use Rattle.books.proofs.Holding.{none_cut, none_taken, slice_get_none}

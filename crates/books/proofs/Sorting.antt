@@ -1,22 +1,15 @@
 -- What sorting keeps, and how a change of the pile shows in its sorted list.
-use Rattle.std.proofs.Common.{◌≡◌, ℕ, zero, suc, ◌+◌, Bool, true, false, cond, not, ◌&&◌, ◌||◌, eqb, List, [], ◌∷◌, ◌++◌, length, Some, None, Option, filter, sym, refl, ap, subst, ◌≤◌, ◌∙◌, add-one, arith}
+use Rattle.std.proofs.Common.{◌≡◌, ℕ, zero, suc, ◌+◌, Bool, true, false, cond, not, ◌&&◌, ◌||◌, eqb, List, [], ◌∷◌, ◌++◌, length, Some, None, Option, filter, sym, refl, ◌∙◌, add-one, arith}
 use Rattle.std.specs.List.{slice_get, list_all, find}
 use Rattle.std.proofs.lemmas.List.Recursion.{is_sum_by}
-use Rattle.std.proofs.lemmas.List.{append-nil, length-take}
-use Rattle.figures.specs.Orders.{within_figures}
+use Rattle.std.proofs.lemmas.List.{append-nil}
 use Rattle.std.proofs.lemmas.Bool.{and_parts, eqb-false, not-true, or_parts}
 use Rattle.std.proofs.lemmas.Bool.Decides.{nat_tests}
 use Rattle.figures.specs.declared.order.Order.{Order}
 use Rattle.sides.specs.Ranking.{Ranks}
 use Rattle.sides.specs.Listing.{Ranked, apart, ranked_in, sooner, stands}
-use Rattle.book.specs.Lists.{lessened, lessened_first, total_energy, with_serial, without_first}
-use Rattle.book.proofs.Ranked.{ListingLaws, ranked_put}
+use Rattle.book.specs.Lists.{lessened, lessened_first, total_energy, with_serial, without_first, ListingLaws}
 use Rattle.book.proofs.Sound.{each_filter}
-use Rattle.book.specs.Meaning.{Sound}
-use Rattle.book.proofs.Kept.{each_ranked_in, stands_ranked_in, apart_ranked_in, length_ranked_in}
-use Rattle.books.specs.Filling.{Fill}
-use Rattle.books.specs.Holding.{held, size}
-use Rattle.books.specs.declared.places.Places.{Places}
 use Rattle.books.specs.Sorting.{sorted, stands_sorted, sorted_ranked}
 
 -- of the one found before and another order, which is listed first
@@ -182,8 +175,8 @@ module _ (before : Order → Order → Bool) (laws : ListingLaws before) where
       grind (arith, nat_tests)
 
   -- one more order: it is the first that passes unless the one found before comes before it
-  pub first_that_push : (test : Order → Bool) (xs : List Order) (x : Order) → apart (xs ++ x ∷ []) ≡ true → find test (sorted before (xs ++ x ∷ [])) ≡ cond (test x) (soonest_of before (find test (sorted before xs)) x) (find test (sorted before xs))
-  first_that_push test xs x h =
+  pub find_push : (test : Order → Bool) (xs : List Order) (x : Order) → apart (xs ++ x ∷ []) ≡ true → find test (sorted before (xs ++ x ∷ [])) ≡ cond (test x) (soonest_of before (find test (sorted before xs)) x) (find test (sorted before xs))
+  find_push test xs x h =
       let s = sort_pick xs [] x h in
       let n = append-nil xs in
       let a = rw n at (and_parts (not (stands x.serial (xs ++ []))) (apart (xs ++ [])) (sym (apart_pick xs [] x) ∙ h)).1 in

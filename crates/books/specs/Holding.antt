@@ -1,10 +1,9 @@
 -- The orders that stand in a caller's places. What is proved here, nobody has to believe.
-use Rattle.std.specs.Prelude.{◌≡◌, ℕ, zero, suc, ◌≤◌, Bool, true, cond, List, [], ◌∷◌, length, take, Some, None, Option, ◌==◌, slice_index_or, slice_set}
+use Rattle.std.specs.Prelude.{ℕ, zero, suc, ◌≤◌, cond, List, [], ◌∷◌, length, take, Some, None, Option, ◌==◌, slice_index_or, slice_set}
 use Rattle.std.proofs.Common.{zero-le, suc-le-suc}
 use Rattle.std.specs.List.{remove, slice_get}
 use Rattle.figures.specs.Orders.{blank}
 use Rattle.figures.specs.declared.order.Order.{Order}
-use Rattle.sides.specs.Listing.{Ranked}
 use Rattle.book.specs.Lists.{lessened}
 use Rattle.book.specs.Meaning.{Sound, energy_in}
 use Rattle.books.specs.Filling.{Fill}
@@ -24,16 +23,15 @@ held places = take places.count places.orders.now
 abbrev pub size : Places → ℕ
 size places = length places.orders.now
 
--- places in which ranked orders stand make a sound book
-pub sound : (before : Order → Order → Bool) (places : Places) → Fill places.count places.orders.now → Ranked before (held places) → Sound before (size places) (held places)
-sound before places filled ranked =
+-- such places make a sound book
+pub sound : (places : Places) → Fill places.count places.orders.now → Sound (size places) (held places)
+sound places filled =
     record {
       some_place = filled.0;
       few_places = filled.1;
       room = take_room places.count places.orders.now;
       figures = filled.3;
       serials = filled.4;
-      ranked = ranked;
     }
 
 -- the order at a place, if there is one

@@ -8,7 +8,8 @@ use Rattle.figures.specs.declared.order.Order.{Order}
 use Rattle.sides.specs.Listing.{Ranked, apart, ranked_in, stands}
 use Rattle.book.specs.Meaning.{Sound}
 use Rattle.book.proofs.Kept.{each_ranked_in, stands_ranked_in, apart_ranked_in, length_ranked_in}
-use Rattle.book.proofs.Ranked.{ListingLaws, ranked_put}
+use Rattle.book.proofs.Ranked.{ranked_put}
+use Rattle.book.specs.Lists.{ListingLaws}
 use Rattle.books.specs.Filling.{Fill}
 use Rattle.books.specs.Holding.{held, size, take_room}
 use Rattle.books.specs.declared.places.Places.{Places}
@@ -46,14 +47,13 @@ sorted_ranked before laws (x ∷ xs) h =
     let p = and_parts (not (stands x.serial xs)) (apart xs) h in
     ranked_put before laws x (sorted before xs) (stands_sorted x.serial before xs ∙ not-true (stands x.serial xs) p.0) (sorted_ranked before laws xs p.1)
 
--- the sorted orders of places make a sound book
-pub sorted_sound : (before : Order → Order → Bool) → ListingLaws before → (places : Places) → Fill places.count places.orders.now → Sound before (size places) (sorted before (held places))
-sorted_sound before laws places filled =
+-- the sorted orders of a book's places make a sound book
+pub sorted_sound : (before : Order → Order → Bool) (places : Places) → Fill places.count places.orders.now → Sound (size places) (sorted before (held places))
+sorted_sound before places filled =
     record {
       some_place = filled.0;
       few_places = filled.1;
       room = subst (λ n. n ≤ size places) (sym (length_sorted before (held places))) (take_room places.count places.orders.now);
       figures = each_sorted within_figures before (held places) ∙ filled.3;
       serials = apart_sorted before (held places) ∙ filled.4;
-      ranked = sorted_ranked before laws (held places) filled.4;
     }

@@ -4,6 +4,7 @@ ghost use Rattle.figures.specs.Bounds.{refuse_if};
 ghost use Rattle.figures.specs.Refusals.{notice, refused_by};
 ghost use Rattle.figures.specs.Texts.{refusal_text};
 
+use std::error::Error;
 use std::fmt;
 
 /// A part of the exchange that can refuse.
@@ -74,10 +75,11 @@ impl Reason {
         }
     }
 
-    /// The figure that goes with the number. A length has no `From` into an `i128`; the cast loses nothing.
+    /// The figure that goes with the number.
     pub fn figure(self) -> i128
         ensures { result ≡ (notice self).figure }
     {
+        // A length has no `From` into an `i128`; the cast loses nothing.
         match self {
             Reason::MemberUnknown { member } => i128::from(member),
             Reason::HourNotOpen { hour } => i128::from(hour),
@@ -137,3 +139,5 @@ impl fmt::Display for Refusal {
         )
     }
 }
+
+impl Error for Refusal {}

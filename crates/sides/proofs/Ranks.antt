@@ -1,12 +1,10 @@
 -- Insertion by rank is insertion at the rank, and whether there is room for it.
-use Rattle.std.proofs.Common.{◌≡◌, ℕ, ◌+◌, ◌<◌, ◌≤◌, Bool, true, false, cond, List, [], ◌∷◌, length, take, Some, None, Ok, Err, sym, refl, ap, ◌∙◌, one-add, arith}
+use Rattle.std.proofs.Common.{◌≡◌, ℕ, ◌+◌, ◌≤◌, Bool, true, false, cond, List, [], ◌∷◌, take, Some, None, sym, refl, ap, ◌∙◌, one-add, arith}
 use Rattle.std.specs.List.{insert}
 use Rattle.std.proofs.lemmas.List.{length-take}
 use Rattle.std.proofs.lemmas.List.Sums.{prefix_len-le-length}
-use Rattle.std.proofs.lemmas.Bool.{le-leb, lt-leb}
-use Rattle.figures.specs.declared.refusal.Reason.TheVariants.{BookFull}
 use Rattle.figures.specs.declared.order.Order.{Order}
-use Rattle.sides.specs.Listing.{stands, ranked_in, rank_among, rank_for, room_for}
+use Rattle.sides.specs.Listing.{stands, ranked_in, rank_among, rank_for}
 
 pub ranked_in_is : (before : Order → Order → Bool) (x : Order) (xs : List Order) → ranked_in before x xs ≡ insert xs (rank_among before x xs) x
 ranked_in_is before x [] = refl

@@ -1,4 +1,4 @@
--- The order in which a book lists: by rising hour, and within an hour by rank.
+-- The order in which a book lists: by rising hour, and within an hour by rank. What is proved here, nobody has to believe.
 use Rattle.std.specs.Prelude.{◌≡◌, ℕ, Bool, true, cond, not, ◌&&◌, ◌||◌, List, [], ◌∷◌, length, Some, None, Ok, Err, Option, Result, ◌==◌, nat_le, nat_lt}
 use Rattle.std.specs.List.{list_all, list_any, prefix_len}
 use Rattle.std.specs.Coded.{×_prop, Unit-prop}

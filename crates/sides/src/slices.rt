@@ -7,11 +7,11 @@ use crate::ranking::Ranking;
 use figures::order::Order;
 use figures::refusal::{Reason, refuse_unless};
 
-/// Whether `order` is listed before `other`: by hour, and then by rank. The rank is an answer and no field,
-/// so there are no tuples to compare.
+/// Whether `order` is listed before `other`: by hour, and then by rank.
 pub fn is_sooner<R: Ranking>(order: &Order, other: &Order) -> bool
     ensures { result ≡ sooner R.Ranking.first order.now other.now }
 {
+    // The rank is an answer and no field, so there are no tuples to compare.
     order.hour < other.hour || order.hour == other.hour && R::comes_first(order, other)
 }
 
@@ -43,8 +43,8 @@ fn new_and_sooner<R: Ranking>(orders: &[Order], order: &Order) -> usize
 }
 
 /// Inserts `order` by rank among the first `count` orders in `places`, unless no place is left behind
-/// them or its serial stands among them already. One pass, and one shift of the orders behind it. The count
-/// stands beside the places, since what finds and inserts by rank is to work on any caller's slice.
+/// them or its serial stands among them already. One pass, and one shift of the orders behind it.
+// The count stands beside the places, since what finds and inserts by rank is to work on any caller's slice.
 pub fn insert<R: Ranking>(places: &mut [Order], count: usize, order: Order) -> Result<(), Reason>
     ensures answer { result ≡ room_for (length places.old) (take count places.old) order }
     ensures after { places.new ≡ accepted result (ranked_in (sooner R.Ranking.first) order (take count places.old) ++ drop (count + 1) places.old) places.old }

@@ -2,7 +2,7 @@
 ghost use Rattle.std.specs.Prelude.{◌≡◌, [], ◌∷◌, take, drop};
 ghost use Rattle.batch.specs.Layout.{bytes_at, word, terms_layout, FittingTerms};
 
-use crate::fields::{Fields, first_byte, number_at};
+use crate::fields::{Fields, number_at};
 use crate::request::Terms;
 
 /// Member (1 byte), hour (4) and energy (4).
@@ -12,8 +12,8 @@ impl Fields<'_, 9> {
     pub fn member(self) -> u8
         ensures { take 1 self.entry.0.now ≡ result ∷ [] }
     {
-        let fields = self.0;
-        first_byte(fields)
+        let [member, ..] = self.0;
+        *member
     }
 
     pub fn hour(self) -> u32

@@ -2,17 +2,18 @@
 ghost use Rattle.std.specs.Prelude.{◌≡◌, [], ◌∷◌, take, drop};
 ghost use Rattle.batch.specs.Layout.{word};
 
-use crate::fields::{Fields, first_byte, number_at};
+use crate::fields::{Fields, number_at};
 
 /// Member (1 byte) and serial (4).
 pub type WithdrawalFields<'a> = Fields<'a, 5>;
 
 impl Fields<'_, 5> {
+    // As in `OrderFields`: one function for every length would have to ask that a byte is there.
     pub fn member(self) -> u8
         ensures { take 1 self.entry.0.now ≡ result ∷ [] }
     {
-        let fields = self.0;
-        first_byte(fields)
+        let [member, ..] = self.0;
+        *member
     }
 
     pub fn serial(self) -> u32

@@ -4,7 +4,7 @@ ghost use Rattle.sides.specs.Listing.{sooner};
 ghost use Rattle.book.specs.Meaning.{checked_places, made_answer};
 ghost use Rattle.book.proofs.Ranked.{sooner_laws};
 ghost use Rattle.books.specs.Holding.{held, size};
-ghost use Rattle.books.specs.Sorting.{sorted, sorted_sound};
+ghost use Rattle.books.specs.Sorting.{sorted, sorted_ranked, sorted_sound};
 
 use crate::pile::Pile;
 use crate::places::Places;
@@ -76,5 +76,7 @@ impl<'a, S: Side> Book for Pile<'a, S> {
         self.places.drop_hour(hour)
     }
 
-    ghost sound = { λ pile. sorted_sound (sooner S.Rank.Ranking.first) (sooner_laws S.Rank.Ranking.lawful) pile.places pile.places.filled };
+    ghost sound = { λ pile. sorted_sound (sooner S.Rank.Ranking.first) pile.places pile.places.filled };
+
+    ghost ranked = { λ pile. sorted_ranked (sooner S.Rank.Ranking.first) (sooner_laws S.Rank.Ranking.lawful) (held pile.places) pile.places.filled.4 };
 }

@@ -12,7 +12,7 @@ use book::criterion::{OfHour, WithSerial};
 use book::refusing::{by_book, check_places};
 use book::slices::{energy, place_of, remove, remove_all};
 use figures::order::Order;
-use figures::refusal::{Reason, Refusal, refuse_unless};
+use figures::refusal::{Part, Reason, Refusal, refuse_unless};
 use sides::ranking::Ranking;
 use sides::slices::{insert, stands};
 
@@ -112,11 +112,11 @@ impl<'a> Places<'a> {
         ensures list { held self.new ≡ accepted result (cut_at place energy (held self.old)) (held self.old) }
         ensures untouched { Untouched result self.new.orders.now self.old.orders.now }
     {
-        let refused = by_book(Err(Reason::CutTooLarge { energy }));
-        let Some(at) = place else { return refused };
+        let too_large = Reason::CutTooLarge { energy }.refused_by(Part::Book);
+        let at = place.ok_or(too_large)?;
         let left = self.orders[at].energy;
         if !(1..=left).contains(&energy) {
-            return refused;
+            return Err(too_large);
         }
         if energy == left {
             let _ = self.take_at(at);

@@ -1,6 +1,5 @@
 // What a shelf does.
 ghost use Rattle.std.specs.Prelude.{◌≡◌, [], length, IfOk};
-ghost use Rattle.sides.specs.Listing.{sooner};
 ghost use Rattle.book.specs.Meaning.{checked_places, made_answer};
 ghost use Rattle.books.specs.Holding.{held, size, sound};
 
@@ -74,5 +73,7 @@ impl<'a, S: Side> Book for Shelf<'a, S> {
         self.places.drop_hour(hour)
     }
 
-    ghost sound = { λ shelf. sound (sooner S.Rank.Ranking.first) shelf.places shelf.places.filled shelf.ranked };
+    ghost sound = { λ shelf. sound shelf.places shelf.places.filled };
+
+    ghost ranked = { λ shelf. shelf.ranked };
 }

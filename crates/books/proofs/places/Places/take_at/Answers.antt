@@ -1,8 +1,6 @@
-use Rattle.std.proofs.Common.{◌≡◌, take, Some, None, sym, ap, ◌∙◌, subst, arith}
-use Rattle.std.specs.List.{slice_get}
+use Rattle.std.proofs.Common.{take, sym, ap, ◌∙◌, subst, arith}
 use Rattle.book.proofs.Sound.{each_removed, apart_removed}
 use Rattle.books.specs.Filling.{Fill}
-use Rattle.books.specs.Holding.{held}
 use Rattle.books.proofs.Holding.{lent, taken_none, taken_one}
 use Rattle.books.proofs.places.Places.take_at.Goals as goal
 

@@ -1,4 +1,4 @@
-use Rattle.std.proofs.Common.{◌≡◌, Some, None, sym, ap, ◌∙◌}
+use Rattle.std.proofs.Common.{Some, sym, ap, ◌∙◌}
 use Rattle.std.specs.List.{position}
 use Rattle.book.specs.Lists.{with_serial}
 use Rattle.book.proofs.Places.{place_none}
