@@ -31,10 +31,8 @@ fn asked(rt: &HostRuntime) -> io::Result<Option<Shown>> {
     let Some(word) = words.next() else {
         return Ok(Some(Shown::Times));
     };
-    if word.as_str() == "counts" && words.next().is_none() {
-        return Ok(Some(Shown::Counts));
-    }
-    Ok(None)
+    let counts = word.as_str() == "counts" && words.next().is_none();
+    Ok(counts.then_some(Shown::Counts))
 }
 
 fn print_table(table: &Table) -> anyhow::Result<()> {

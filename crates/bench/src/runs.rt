@@ -20,6 +20,7 @@ pub(crate) fn fill<B: Book>(book: &mut B, count: u32) -> usize
 pub(crate) fn cut<B: Book>(book: &mut B, count: u32) -> usize
     ensures { result ≤ count }
 {
+    // Not one function with `fill`, over a closure: it would have to take any number, at which `put + 1` may not fit.
     (0..count)
         .map(|turn| book.cut(1 + turn % LAST_HOUR, 1))
         .filter(Result::is_ok)

@@ -2,7 +2,7 @@
 use crate::timing::{Run, Runs};
 use std::io;
 
-/// What the table shows of each run.
+/// What the table shows of each run; the program's arguments choose it.
 #[derive(Clone, Copy)]
 pub enum Shown {
     /// The accepted calls, which are the same every time.
@@ -12,8 +12,7 @@ pub enum Shown {
 }
 
 impl Shown {
-    // What stands in the column of a run, which the program's arguments choose. No `From` makes a `u128` of a
-    // `usize`; the cast loses nothing.
+    // What stands in the column of a run. No `From` makes a `u128` of a `usize`; the cast loses nothing.
     fn figure(self, run: Run) -> u128 {
         match self {
             Shown::Counts => run.accepted as u128,

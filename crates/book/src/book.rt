@@ -22,7 +22,8 @@ pub trait Book {
     // The resting orders, as they are listed.
     ghost list: { Self → List Order };
 
-    // What stands in the places, whether or not it is listed.
+    // What stands in the places, whether or not it is listed. That the capacity stays, and what a refusal leaves,
+    // is said of two states, so it stands in the clauses below and in no law.
     ghost places: { Self → List Order };
 
     /// Adds an order at its ranked position.

@@ -12,7 +12,8 @@ use sides::side::Side;
 use std::fmt::Debug;
 use std::test::Fail;
 
-// Fails where the two are not equal.
+// Fails where the two are not equal. `assert_eq!` may end the process, for which it wants the runtime itself, and
+// these functions are not given it.
 fn check_eq<T: PartialEq + Debug + Drop>(found: T, wanted: T) -> Result<(), Fail> {
     if found == wanted {
         return Ok(());

@@ -8,7 +8,8 @@ use crate::fields::{Fields, number_at};
 pub type WithdrawalFields<'a> = Fields<'a, 5>;
 
 impl Fields<'_, 5> {
-    // As in `OrderFields`: one function for every length would have to ask that a byte is there.
+    // As in `OrderFields`: once for every length, it would ask its caller that a byte is there, and a helper for
+    // the two would be no shorter than they are.
     pub fn member(self) -> u8
         ensures { take 1 self.entry.0.now ≡ result ∷ [] }
     {

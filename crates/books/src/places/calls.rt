@@ -49,8 +49,7 @@ impl<'a> Places<'a> {
         ensures untouched { Untouched result self.new.orders.now self.old.orders.now }
     {
         by_book(order.check())?;
-        let count = self.count;
-        by_book(insert::<R>(self.orders, count, order))?;
+        by_book(insert::<R>(self.orders, self.count, order))?;
         self.count += 1;
         Ok(())
     }
@@ -88,8 +87,7 @@ impl<'a> Places<'a> {
         ensures answer { result ≡ slice_get (held self.old) at }
         ensures list { held self.new ≡ remove (held self.old) at }
     {
-        let count = self.count;
-        let taken = remove(&mut self.orders[..count], at)?;
+        let taken = remove(&mut self.orders[..self.count], at)?;
         self.count -= 1;
         Some(taken)
     }
@@ -112,12 +110,10 @@ impl<'a> Places<'a> {
         ensures list { held self.new ≡ accepted result (cut_at place energy (held self.old)) (held self.old) }
         ensures untouched { Untouched result self.new.orders.now self.old.orders.now }
     {
-        let too_large = Reason::CutTooLarge { energy }.refused_by(Part::Book);
-        let at = place.ok_or(too_large)?;
+        let too_large = Reason::CutTooLarge { energy };
+        let at = place.ok_or(too_large.refused_by(Part::Book))?;
         let left = self.orders[at].energy;
-        if !(1..=left).contains(&energy) {
-            return Err(too_large);
-        }
+        by_book(refuse_unless((1..=left).contains(&energy), too_large))?;
         if energy == left {
             let _ = self.take_at(at);
         } else {
@@ -133,8 +129,7 @@ impl<'a> Places<'a> {
         ensures list { held self.new ≡ other_hours hour (held self.old) }
     {
         let lapsed = energy(self.held(), &OfHour(hour));
-        let count = self.count;
-        self.count = remove_all(&mut self.orders[..count], &OfHour(hour));
+        self.count = remove_all(&mut self.orders[..self.count], &OfHour(hour));
         // 4,096 orders have less than 2^64 kWh.
         lapsed as u64
     }
