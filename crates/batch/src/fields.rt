@@ -11,7 +11,8 @@ pub use order::OrderFields;
 pub use withdrawal::WithdrawalFields;
 
 /// The N bytes behind a record's mark. Which fields they hold follows from N.
-// Where they are lent on, a `let` names them first: straight from `self` that has no rule.
+// An accessor names the array by a `let` before it lends it on as a slice; the borrow checker does not cover that
+// straight from `self`.
 #[derive(Clone, Copy)]
 pub struct Fields<'a, const N: usize>(pub &'a [u8; N]);
 

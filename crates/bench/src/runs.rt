@@ -29,7 +29,7 @@ pub(crate) fn cut<B: Book>(book: &mut B, count: u32) -> usize
 
 /// Empties the hours one after the other, and answers how many orders it removed.
 pub(crate) fn drain<B: Book>(book: &mut B) -> usize {
-    // Of a `sum` over the hours it is not found that it fits.
+    // A loop, since the check does not find that a `sum` over the hours fits.
     let mut removed = 0;
     for passed in 0..LAST_HOUR {
         removed += drain_hour(book, 1 + passed);
