@@ -35,7 +35,9 @@ fn list_batch(heap: Global, batch: &[u8]) -> Result<Vec<Line>, AllocError>
 {
     let mut entries = Vec::with_capacity(heap, batch.len() / SHORTEST)?;
     let end = read_all(batch, &mut entries);
-    let mut lines = vec![in heap; Line::Call { hour: OPENING_HOUR }]?;
+    // Room for the call's line, the records' and one more: where a vector grows, it asks for twice what it holds.
+    let mut lines = Vec::with_capacity(heap, entries.len() + 2)?;
+    lines.push(Line::Call { hour: OPENING_HOUR })?;
     lines.extend(entries.into_iter().map(Line::Listed))?;
     add_end(&mut lines, end)?;
     Ok(lines)
