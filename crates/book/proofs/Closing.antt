@@ -1,9 +1,19 @@
--- A loop over a slice of orders keeps what passes.
-use Rattle.std.proofs.Common.{◌≡◌, ℕ, ◌+◌, ◌-◌, ◌<◌, ◌≤◌, Bool, true, false, List, [], ◌∷◌, ◌++◌, length, get_or, take, drop, set, filter, sym, ap, ◌∙◌, subst, append_assoc, arith}
+-- A loop over the first `count` places of a slice keeps what passes.
+use Rattle.std.proofs.Common.{◌≡◌, ℕ, ◌+◌, ◌-◌, ◌<◌, ◌≤◌, min, Bool, true, false, ◌⊎◌, List, [], ◌∷◌, ◌++◌, length, get_or, take, drop, set, filter, sym, ap, ◌∙◌, subst, inl, inr, append_assoc, arith}
 use Rattle.std.proofs.lemmas.List.Elements.{filter_more}
-use Rattle.std.proofs.lemmas.List.{append-nil, get_or-append-add, get_or-drop, set_at, length_push, drop_more}
-use Rattle.std.proofs.lemmas.Bool.{cond-true, cond-false}
+use Rattle.std.proofs.lemmas.List.{append-nil, get_or-append-add, get_or-drop, set_at, length_push, drop_more, take_all}
+use Rattle.std.proofs.lemmas.Bool.{cases_lt, cond-true, cond-false}
 use Rattle.figures.specs.declared.order.Order.{Order}
+
+take_min_by : {X : Type 0} (count : ℕ) (xs : List X) → (count < length xs) ⊎ (length xs ≤ count) → take (min count (length xs)) xs ≡ take count xs
+take_min_by count xs (inl h) = let e : min count (length xs) ≡ count = omega arith in ap (λ n. take n xs) e
+take_min_by count xs (inr h) =
+    let e : min count (length xs) ≡ length xs = omega arith in
+    ap (λ n. take n xs) e ∙ (take_all _ xs (omega arith) ∙ sym (take_all count xs h))
+
+-- a count past the end is the whole list
+take_min : {X : Type 0} (count : ℕ) (xs : List X) → take (min count (length xs)) xs ≡ take count xs
+take_min count xs = take_min_by count xs (cases_lt count (length xs))
 
 -- Among the first i, `left` orders pass; they stand in front, and what stood behind them stays.
 pub record Keeping (test : Order → Bool) (xs ys : List Order) (left i : ℕ) : Type 0 where
@@ -55,3 +65,8 @@ keeping_yes test xs ys left i d k l e =
 pub keeping_no : (test : Order → Bool) (xs ys : List Order) (left i : ℕ) (d : Order) → Keeping test xs ys left i → i < length xs → test (get_or ys i d) ≡ false → Keeping test xs ys left (i + 1)
 keeping_no test xs ys left i d k l e =
     no_of_old test xs ys left i d k l (ap test (sym (keeping_read test xs ys left i d k l)) ∙ e)
+
+pub keeping_all : (test : Order → Bool) (xs ys : List Order) (count left i : ℕ) → Keeping test xs ys left i → i ≡ min count (length xs) → (left ≡ length (filter test (take count xs))) × (ys ≡ filter test (take count xs) ++ drop left xs)
+keeping_all test xs ys count left i k e =
+    let all : take i xs ≡ take count xs = ap (λ n. take n xs) e ∙ take_min count xs in
+    (k.long ∙ ap (λ zs. length (filter test zs)) all, k.is ∙ ap (λ zs. filter test zs ++ drop left xs) all)

@@ -1,5 +1,5 @@
 -- Words for lists of orders: tests, the list without an order, energy, and what the order of a list owes.
-use Rattle.std.specs.Prelude.{◌≡◌, ℕ, ◌-◌, Bool, true, false, cond, List, [], ◌∷◌, ◌++◌, length, drop, ◌==◌, nat_lt}
+use Rattle.std.specs.Prelude.{◌≡◌, ℕ, ◌-◌, Bool, true, false, cond, List, [], ◌∷◌, ◌++◌, length, take, drop, ◌==◌, nat_lt}
 use Rattle.std.specs.List.{remove, sum_by}
 use Rattle.figures.specs.declared.order.Order.{Order}
 
@@ -9,10 +9,11 @@ of_hour hour x = x.hour == hour
 abbrev pub with_serial : ℕ → Order → Bool
 with_serial serial x = x.serial == serial
 
--- the orders without the one at a place, where one stands: those behind it come one place nearer, and the last of them
--- stays where it was too
-abbrev pub closed_up : ℕ → List Order → List Order
-closed_up at xs = cond (nat_lt at (length xs)) (remove xs at ++ drop (length xs - 1) xs) xs
+-- the first `count` orders without the one at a place, where one stands: those behind it come one place nearer, and the
+-- last of them stays where it was too. Later places stay
+abbrev pub closed_up : ℕ → ℕ → List Order → List Order
+closed_up count at xs =
+    cond (nat_lt at (length (take count xs))) (remove (take count xs) at ++ drop (length (take count xs) - 1) xs) xs
 
 -- the list without the first order that passes the test
 abbrev pub without_first : (Order → Bool) → List Order → List Order

@@ -1,8 +1,8 @@
 -- What a change of the places makes of the orders held in them. The places are xs before and ys after.
-use Rattle.std.proofs.Common.{◌≡◌, ℕ, zero, suc, ◌+◌, ◌-◌, ◌^◌, ◌<◌, ◌≤◌, Bool, true, false, cond, not, eqb, List, [], ◌∷◌, ◌++◌, length, get_or, take, drop, set, Some, None, Ok, Err, filter, Option, Result, sym, refl, ap, ◌∙◌, append_assoc, arith}
+use Rattle.std.proofs.Common.{◌≡◌, ℕ, zero, suc, ◌+◌, ◌-◌, ◌^◌, ◌<◌, ◌≤◌, Bool, true, false, cond, not, eqb, List, [], ◌∷◌, ◌++◌, length, get_or, take, drop, set, Some, None, Ok, Err, filter, Option, Result, sym, refl, ap, ◌∙◌, arith}
 use Rattle.std.specs.List.{prefix_len, remove, slice_get, list_all, position, find}
 use Rattle.std.proofs.lemmas.List.Edits.{length-remove}
-use Rattle.std.proofs.lemmas.List.{take_at, take_all, length-append, take-append-drop, drop_all, length-take, length-take-le, get_or-take, append-nil, length-set}
+use Rattle.std.proofs.lemmas.List.{take_at, take_all, drop_all, length-take, length-take-le, get_or-take, append-nil, length-set}
 use Rattle.std.proofs.lemmas.Option.{slice_get-get_or}
 use Rattle.std.proofs.lemmas.List.Sums.{length-filter, count_by-le-length}
 use Rattle.std.proofs.lemmas.Bool.{cond_both, cond-true, cond-false, lt-ltb, le-ltb, eq-eqb, ne_eqb, and_from, not_from_false}
@@ -27,21 +27,9 @@ pub refilled : (xs ys new : List Order) (count more : ℕ) → Fill count xs →
 refilled xs ys new count more fill long room is figures serials =
     (omega (arith, fill.0), omega (arith, fill.1), room, ap (list_all within_figures) is ∙ figures, ap apart is ∙ serials)
 
--- the places once the first `count` of them, which were lent, hold zs
-length_lent : (xs zs : List Order) (count : ℕ) → length zs ≡ length (take count xs) → length (zs ++ drop count xs) ≡ length xs
-length_lent xs zs count long =
-    length-append zs (drop count xs) ∙ (ap (λ n. n + length (drop count xs)) long ∙ (sym (length-append (take count xs) (drop count xs)) ∙ ap length (take-append-drop count xs)))
-
-pub lent : (xs zs new : List Order) (count more : ℕ) → Fill count xs → length zs ≡ length (take count xs) → more ≤ count → take more (zs ++ drop count xs) ≡ new → list_all within_figures new ≡ true → apart new ≡ true → Fill more (zs ++ drop count xs)
-lent xs zs new count more fill long few is figures serials =
-    let room = fill.2 in
-    let all = length_lent xs zs count long in
-    refilled xs (zs ++ drop count xs) new count more fill all (omega arith) is figures serials
-
--- what stands in front of the lent places
-pub lent_front : (new behind zs rest : List Order) (left : ℕ) → left ≡ length new → zs ≡ new ++ behind → take left (zs ++ rest) ≡ new
-lent_front new behind zs rest left long is =
-    ap (λ ys. take left (ys ++ rest)) is ∙ (ap (take left) (append_assoc new behind rest) ∙ take_at new (behind ++ rest) left (sym long))
+-- what stands in front of others
+pub kept_in_front : (new rest ys : List Order) (left : ℕ) → left ≡ length new → ys ≡ new ++ rest → take left ys ≡ new
+kept_in_front new rest ys left long is = ap (take left) is ∙ take_at new rest left (sym long)
 
 -- put
 
@@ -93,18 +81,18 @@ slice_get_some [] at y e = let z : ◌≡◌ {A = ℕ} 0 1 = cc in absurd (omega
 slice_get_some (x ∷ xs) zero y e = omega arith
 slice_get_some (x ∷ xs) (suc at) y e = let k = slice_get_some xs at y e in omega arith
 
--- nothing stands at the place: nothing is removed, and the places are as they were
-pub taken_none : (xs zs : List Order) (count at : ℕ) → None ≡ slice_get (take count xs) at → zs ≡ closed_up at (take count xs) → (zs ++ drop count xs ≡ xs) × (take count xs ≡ remove (take count xs) at)
-taken_none xs zs count at e is =
+-- nothing stands at the place: the places stay as they are, and nothing is removed
+pub taken_none : (xs ys : List Order) (count at : ℕ) → None ≡ slice_get (take count xs) at → ys ≡ closed_up count at xs → (ys ≡ xs) × (take count xs ≡ remove (take count xs) at)
+taken_none xs ys count at e is =
     let past = slice_get_none (take count xs) at e in
-    (ap (λ ys. ys ++ drop count xs) (is ∙ cond-false _ _ _ (le-ltb _ _ past)) ∙ take-append-drop count xs, sym (removed_past (take count xs) at past))
+    (is ∙ cond-false _ _ _ (le-ltb _ _ past), sym (removed_past (take count xs) at past))
 
-pub taken_one : (xs zs : List Order) (count at : ℕ) (y : Order) → count ≤ length xs → Some y ≡ slice_get (take count xs) at → zs ≡ closed_up at (take count xs) → take (count - 1) (zs ++ drop count xs) ≡ remove (take count xs) at
-taken_one xs zs count at y room e is =
+pub taken_one : (xs ys : List Order) (count at : ℕ) (y : Order) → count ≤ length xs → Some y ≡ slice_get (take count xs) at → ys ≡ closed_up count at xs → take (count - 1) ys ≡ remove (take count xs) at
+taken_one xs ys count at y room e is =
     let within = slice_get_some (take count xs) at y e in
     let all : length (take count xs) ≡ count = length-take-le count xs room in
     let less = length-remove (take count xs) at within in
-    lent_front (remove (take count xs) at) _ zs (drop count xs) (count - 1) (omega arith) (is ∙ cond-true _ _ _ (lt-ltb _ _ within))
+    kept_in_front (remove (take count xs) at) _ ys (count - 1) (omega arith) (is ∙ cond-true _ _ _ (lt-ltb _ _ within))
 
 -- cut
 

@@ -6,8 +6,7 @@ ghost use Rattle.books.specs.Holding.{held, order_in};
 ghost use Rattle.books.specs.Sorting.{sorted};
 
 use crate::places::Places;
-use book::criterion::{Criterion, WithSerial};
-use book::slices::place_of;
+use book::criterion::Criterion;
 use figures::order::Order;
 use sides::ranking::Ranking;
 use sides::slices::is_sooner;
@@ -45,24 +44,24 @@ impl Places<'_> {
     pub(super) fn first_among<R: Ranking, C: Criterion>(&self, criterion: &C) -> Option<Order>
         ensures { result ≡ find (C.Criterion.passes criterion.now) (sorted (sooner R.Ranking.first) (held self.now)) }
     {
-        self.held()
-            .iter()
-            .copied()
-            .filter(|order| criterion.passed_by(order))
-            .reduce(|best, other| if is_sooner::<R>(&best, &other) {
-                best
-            } else {
-                other
-            })
+        self.at(self.soonest::<R, C>(criterion)?)
     }
 
-    /// The place of the order that is listed first of those that pass. A pass, and another up to the place.
+    /// The place of the order that is listed first of those that pass. One pass.
     pub(super) fn soonest<R: Ranking, C: Criterion>(&self, criterion: &C) -> Option<usize>
         ensures within { IfSome result (λ place. place < length (held self.now)) }
         ensures first { order_in (held self.now) result ≡ find (C.Criterion.passes criterion.now) (sorted (sooner R.Ranking.first) (held self.now)) }
     {
-        let first = self.first_among::<R, C>(criterion)?;
-        place_of(self.held(), &WithSerial(first.serial))
+        // A loop, since a `reduce` for the order and a second pass for its place take half as much time again.
+        let mut found: Option<(usize, &Order)> = None;
+        for (place, order) in self.held().iter().enumerate() {
+            if criterion.passed_by(order)
+                && !found.is_some_and(|(_, best)| is_sooner::<R>(best, order))
+            {
+                found = Some((place, order));
+            }
+        }
+        found.map(|(place, _)| place)
     }
 
     /// The order that is listed at `position`: the first, and then as often the one behind it.

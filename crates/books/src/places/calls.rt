@@ -87,7 +87,7 @@ impl<'a> Places<'a> {
         ensures answer { result ≡ slice_get (held self.old) at }
         ensures list { held self.new ≡ remove (held self.old) at }
     {
-        let taken = remove(&mut self.orders[..self.count], at)?;
+        let taken = remove(self.orders, self.count, at)?;
         self.count -= 1;
         Some(taken)
     }
@@ -129,7 +129,7 @@ impl<'a> Places<'a> {
         ensures list { held self.new ≡ other_hours hour (held self.old) }
     {
         let lapsed = energy(self.held(), &OfHour(hour));
-        self.count = remove_all(&mut self.orders[..self.count], &OfHour(hour));
+        self.count = remove_all(self.orders, self.count, &OfHour(hour));
         // 4,096 orders have less than 2^64 kWh.
         lapsed as u64
     }

@@ -1,7 +1,7 @@
-use Rattle.std.proofs.Common.{take, sym, ap, ◌∙◌, subst, arith}
+use Rattle.std.proofs.Common.{take, sym, ◌∙◌, subst, arith}
 use Rattle.book.proofs.Sound.{each_removed, apart_removed}
 use Rattle.books.specs.Filling.{Fill}
-use Rattle.books.proofs.Holding.{lent, taken_none, taken_one}
+use Rattle.books.proofs.Holding.{refilled, taken_none, taken_one}
 use Rattle.books.proofs.places.Places.take_at.Goals as goal
 
 pub invariant_of-self : goal.invariant_of-self
@@ -12,15 +12,16 @@ invariant_of-self c =
 pub returns-in_err-taken-clause-list : goal.returns-in_err-taken-clause-list
 returns-in_err-taken-clause-list c =
     let none = taken_none c.args.self.now.orders.now c.remove.new.orders c.args.self.now.count c.args.at (sym c.in_err-taken.was ∙ c.remove.ensures.answer) c.remove.ensures.after in
-    ap (take c.args.self.now.count) none.0 ∙ none.1
+    rw none.0 none.1
 
 pub invariant_of-self-2 : goal.invariant_of-self-2
 invariant_of-self-2 c =
     let places = c.args.self.now.orders.now in
     let count = c.args.self.now.count in
     let fill = c.args.self.now.filled in
-    let is = taken_one places c.remove.new.orders count c.args.at _ fill.2 (sym c.in_ok-taken.was ∙ c.remove.ensures.answer) c.remove.ensures.after in
-    record { filled = lent places c.remove.new.orders _ count _ fill c.remove.auto.orders (omega arith) is (each_removed _ (take count places) c.args.at fill.3) (apart_removed (take count places) c.args.at fill.4) }
+    let room = fill.2 in
+    let is = taken_one places c.remove.new.orders count c.args.at _ room (sym c.in_ok-taken.was ∙ c.remove.ensures.answer) c.remove.ensures.after in
+    record { filled = refilled places c.remove.new.orders _ count _ fill c.remove.auto.orders (omega (arith, c.remove.auto.orders)) is (each_removed _ (take count places) c.args.at fill.3) (apart_removed (take count places) c.args.at fill.4) }
 
 pub returns-clause-list : goal.returns-clause-list
 returns-clause-list c =
